@@ -1,0 +1,11 @@
+-- What a graph says: how many members there are, and which are linked. Assumes nothing.
+use Prim.Native.Nat.{ℕ}
+use Rattle.rules.specs.Links.{Links}
+use Rattle.network.specs.declared.graph.Graph.{Graph}
+use Rattle.network.specs.Rows.{adjacent}
+
+abbrev pub size-of : Graph → ℕ
+size-of g = g .n
+
+abbrev pub links-of : Graph → Links
+links-of g = adjacent (g .rows)

@@ -1,0 +1,44 @@
+ghost use mathlib.Core.Path.{_≡_};
+ghost use Prim.Native.Nat.{ℕ};
+ghost use Rattle.rules.specs.Sets.{has};
+ghost use Rattle.rules.specs.Links.{Lawful-links, shared};
+ghost use Rattle.network.specs.Graphs.{size-of, links-of};
+use crate::graph::Graph;
+use sets::member_set::MemberSet;
+
+impl Graph {
+    // How many members there are.
+    pub fn n(&self) -> u32
+        ensures value { λ r. ⌜ r ≡ size-of (now (self .entry)) ⌝ }
+        ensures lawful { λ _. ⌜ Lawful-links (size-of (now (self .entry))) (links-of (now (self .entry))) ⌝ }
+    {
+        self.n
+    }
+
+    // The members linked to a; nobody where a is unknown.
+    pub fn neighbours(&self, a: u32) -> MemberSet
+        ensures { λ r. ⌜ ((b : ℕ) → has (r .word) b ≡ links-of (now (self .entry)) a b) ⌝ }
+    {
+        if a < 1 || a > 64 {
+            return MemberSet::empty();
+        }
+        self.rows[(a - 1) as usize]
+    }
+
+    // Whether two numbers are linked members; no for equal or unknown ones.
+    pub fn linked(&self, a: u32, b: u32) -> bool
+        ensures { λ r. ⌜ r ≡ links-of (now (self .entry)) a b ⌝ }
+    {
+        self.neighbours(a).has(b)
+    }
+
+    // How many members of the set are linked to both a and b.
+    pub fn shared(&self, a: u32, b: u32, set: MemberSet) -> u32
+        ensures { λ r. ⌜ r ≡ shared (links-of (now (self .entry))) a b (set .word) ⌝ }
+    {
+        self.neighbours(a)
+            .intersection(self.neighbours(b))
+            .intersection(set)
+            .size()
+    }
+}

@@ -1,0 +1,7 @@
+pub mod Tests
+pub mod Digits
+pub mod Tallies
+pub mod Members
+pub mod Order
+pub mod Links
+pub mod Refusals

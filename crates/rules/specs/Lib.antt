@@ -1,0 +1,9 @@
+pub mod Sets
+pub mod Order
+pub mod Links
+pub mod Refusals
+pub mod Sheets
+pub mod Models
+pub mod Standings
+pub mod Paths
+pub mod Published

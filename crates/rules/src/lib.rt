@@ -1,0 +1,1 @@
+// The definitions that every promise is built on, and their theorems.

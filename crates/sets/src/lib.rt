@@ -1,0 +1,3 @@
+// Sets of members, and the sheets that name them.
+pub mod member_set;
+pub mod members;
