@@ -5,3 +5,6 @@ pub mod Members
 pub mod Order
 pub mod Links
 pub mod Refusals
+pub mod Models
+pub mod Published
+pub mod Standings

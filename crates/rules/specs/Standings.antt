@@ -2,6 +2,8 @@
 use mathlib.Core.Path.{_≡_}
 use Prim.Native.Nat.{ℕ, _<_}
 use lib.Dec.{T}
+use Rattle.std.specs.declared.option.Option.{Option}
+use Rattle.std.specs.declared.option.Option.the-variants.{Some, None}
 use Rattle.vocabulary.specs.declared.standing.Standing.{Standing}
 use Rattle.vocabulary.specs.declared.standing.Standing.the-variants as standing
 use Rattle.rules.specs.Sets.{has, inside, Empty-set, Set-of}
@@ -26,6 +28,16 @@ pub record First-apart (l : Links) (m : Meaning) (S a b : ℕ) : Type 0 where
   pub unpaired : T (m .pairs l S a b) → ⊥
   pub smallest : (x : ℕ) → T (has S x) → x < a → Pairs-above l m S x
   pub next : (y : ℕ) → T (has S y) → a < y → y < b → T (m .pairs l S a y)
+
+-- the smallest member that does not fit, none where each fits
+abbrev pub First-loose : Links → Meaning → ℕ → Option ℕ → Type 0
+First-loose l m S None = All-fit l m S
+First-loose l m S (Some a) = First-not S (λ x. T (m .fits l S x)) a
+
+-- the first two that do not pair, none where each pairs with every member above it
+abbrev pub First-unpaired : Links → Meaning → ℕ → Option (ℕ × ℕ) → Type 0
+First-unpaired l m S None = (a : ℕ) → T (has S a) → Pairs-above l m S a
+First-unpaired l m S (Some p) = First-apart l m S (p .0) (p .1)
 
 abbrev pub Stands : ℕ → Links → Meaning → ℕ → Standing → Type 0
 Stands n l m S standing.Empty = Empty-set S

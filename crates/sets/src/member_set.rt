@@ -1,7 +1,7 @@
 ghost use mathlib.Core.Path.{_≡_};
 ghost use mathlib.Core.Bool.{not, _&&_, _||_};
 ghost use Prim.Native.Nat.{ℕ};
-ghost use lib.Dec.{eqb};
+ghost use lib.Dec.{eqb, ltb};
 ghost use Rattle.rules.specs.Sets.{Tells, differs, inside, has, Empty-set, Within, size, Smallest, Same-members, Size-laws};
 ghost use Rattle.rules.specs.Order.{Better, Beats, Order-laws};
 ghost use Rattle.sets.specs.Words.{word-of};
@@ -80,6 +80,13 @@ impl MemberSet {
         MemberSet {
             word: self.word & !other.word,
         }
+    }
+
+    // The members numbered above a.
+    pub fn above(self, a: u32) -> MemberSet
+        ensures { λ r. ⌜ ((b : ℕ) → has (r .word) b ≡ (has (self .word) b && ltb a b)) ⌝ }
+    {
+        self.difference(MemberSet::up_to(a))
     }
 
     // The members of one of the two and not of both.

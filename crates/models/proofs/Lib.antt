@@ -1,0 +1,2 @@
+mod Sweeping
+mod Finding

@@ -1,0 +1,6 @@
+use borrow.Author.Needs.{needs}
+use Rattle.rules.proofs.Published.{plain-agrees}
+use Rattle.models.proofs.plain.Plain.new.Needs as need
+
+pub returns : need.returns
+returns c = (search needs, plain-agrees)
