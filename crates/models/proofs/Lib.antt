@@ -1,2 +1,3 @@
 mod Sweeping
 mod Finding
+mod Sheets

@@ -1,0 +1,9 @@
+-- The number of the digits so far, which is below the power of ten of their count.
+use mathlib.Core.Path.{_≡_}
+use Prim.Native.Nat.{_<_, _^_}
+use lib.ListN.{take}
+use Rattle.command.specs.Grammar.{decimal}
+use Rattle.command.proofs.field.value.Given as given
+
+abbrev pub Inv-loop-b : given.InvT-loop-b
+Inv-loop-b l = (l .v ≡ decimal (take (l .b-index) (l .s))) × (l .v < 10 ^ l .b-index)

@@ -1,0 +1,4 @@
+pub mod Grammar
+pub mod Scan
+pub mod Reading
+pub mod Gathering
