@@ -14,7 +14,7 @@ use Rattle.rules.specs.Standings.{Stands-only}
 use Rattle.models.specs.Sheets.{Named}
 use Rattle.network.specs.Rows.{adjacent}
 use Rattle.matrix.specs.declared.matrix.Matrix.{Matrix}
-use Rattle.command.specs.Grammar.{Spelled, network, link, sheet}
+use Rattle.command.specs.Grammar.{Spelled, network, link, sheet, Written}
 use Rattle.check_sheet.specs.declared.reply.Reply.{Reply}
 use Rattle.check_sheet.specs.declared.reply.Reply.the-variants.{Done, Refused, Judged, Unreadable}
 
@@ -41,3 +41,8 @@ Answered None (sheet numbers) r after = (r ≡ Unreadable) × (after ≡ None)
 Answered (Some net) (network n) r after = (r ≡ Unreadable) × (after ≡ Some net)
 Answered (Some net) (link a b) r after = Edited (link-refusal (net .n) 2016 (adjacent (net .rows)) a b) (net .n) (linking a b (adjacent (net .rows))) (Some net) r after
 Answered (Some net) (sheet numbers) r after = Judged-sheet (sheet-refusal (net .n) numbers) net numbers r × (after ≡ Some net)
+
+-- what a line does: what its command does, or nothing where no command is written so
+pub record Replied (before : Option Matrix) (line : List ℕ) (r : Reply) (after : Option Matrix) : Type 0 where
+  pub command : (c : Spelled) → Written c line → Answered before c r after
+  pub unreadable : ((c : Spelled) → Written c line → ⊥) → (r ≡ Unreadable) × (after ≡ before)

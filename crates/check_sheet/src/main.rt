@@ -3,6 +3,10 @@ mod answer;
 mod reply;
 mod summary;
 
+ghost use Prim.Native.Nat.{ℕ};
+ghost use mathlib.Core.List.{List};
+ghost use Rattle.command.specs.Gathering.{Gathered};
+ghost use Rattle.check_sheet.specs.Answers.{Replied};
 use answer::answer;
 use command::LineBuffer;
 use command::parse;
@@ -16,8 +20,10 @@ use std::io::Write;
 use summary::Summary;
 use summary::SummaryDisplay;
 
-// The reply to one line.
-fn reply_to(net: &mut Option<Matrix>, line: &LineBuffer) -> Reply {
+// What one line does to the network, and what is replied.
+fn reply_to(net: &mut Option<Matrix>, line: &LineBuffer) -> Reply
+    ensures { λ r. ⌜ ((bytes : List ℕ) → Gathered (now (line .entry)) bytes → Replied (now (net .entry)) bytes r (now (net .exit))) ⌝ }
+{
     let Some(text) = line.text() else {
         return Reply::Unreadable;
     };

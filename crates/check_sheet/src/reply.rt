@@ -1,3 +1,5 @@
+ghost use Rattle.std.specs.declared.option.Option.the-variants.{Some};
+ghost use Rattle.check_sheet.specs.Texts.{reply-text};
 use std::fmt;
 use vocabulary::refusal::Refusal;
 use vocabulary::standing::Standing;
@@ -12,6 +14,8 @@ pub enum Reply {
 }
 
 pub impl fmt::Display for Reply as ReplyDisplay {
+    ghost shown = { λ reply. Some (reply-text reply) };
+
     fn fmt<W: fmt::Write>(&self, f: &mut fmt::Formatter<W>) -> fmt::Result {
         match *self {
             Reply::Done => write!(f, "ok"),

@@ -1,3 +1,6 @@
+ghost use mathlib.Core.Path.{_≡_};
+ghost use Rattle.std.specs.declared.option.Option.the-variants.{Some};
+ghost use Rattle.check_sheet.specs.Summaries.{nothing-yet, noted, summary-text};
 use crate::reply::Reply;
 use std::fmt;
 use vocabulary::standing::Standing;
@@ -12,7 +15,9 @@ pub struct Summary {
 }
 
 impl Summary {
-    pub fn new() -> Summary {
+    pub(crate) fn new() -> Summary
+        ensures { λ r. ⌜ r ≡ nothing-yet ⌝ }
+    {
         Summary {
             groups: 0,
             others: 0,
@@ -21,19 +26,23 @@ impl Summary {
         }
     }
 
-    pub fn note(&mut self, reply: Reply) {
-        let count = match reply {
-            Reply::Done => return,
-            Reply::Judged(Standing::Group) => &mut self.groups,
-            Reply::Judged(_) => &mut self.others,
-            Reply::Refused(_) => &mut self.refused,
-            Reply::Unreadable => &mut self.unreadable,
-        };
-        *count = count.saturating_add(1);
+    // Counts one reply; a count that is as high as it can be stays there.
+    pub(crate) fn note(&mut self, reply: Reply)
+        ensures { λ _. ⌜ now (self .exit) ≡ noted reply (now (self .entry)) ⌝ }
+    {
+        match reply {
+            Reply::Done => {}
+            Reply::Judged(Standing::Group) => self.groups = self.groups.saturating_add(1),
+            Reply::Judged(_) => self.others = self.others.saturating_add(1),
+            Reply::Refused(_) => self.refused = self.refused.saturating_add(1),
+            Reply::Unreadable => self.unreadable = self.unreadable.saturating_add(1),
+        }
     }
 }
 
 pub impl fmt::Display for Summary as SummaryDisplay {
+    ghost shown = { λ summary. Some (summary-text summary) };
+
     fn fmt<W: fmt::Write>(&self, f: &mut fmt::Formatter<W>) -> fmt::Result {
         let groups = self.groups;
         let others = self.others;
