@@ -13,7 +13,7 @@ use Rattle.std.proofs.shelf.Tests.{cases-eq}
 use Rattle.std.proofs.shelf.Ways.{tells}
 use Rattle.rules.specs.Sets.{has, inside, size}
 use Rattle.rules.specs.Links.{Links, Only-members, shared}
-use Rattle.rules.proofs.Tallies.{tally-same}
+use Rattle.rules.proofs.Tallies.{tally-same, tally-none}
 use Rattle.sets.specs.declared.member_set.MemberSet.{MemberSet}
 use Rattle.network.specs.Rows.{nobody, adjacent}
 
@@ -55,3 +55,10 @@ count-shared l a b S ra rb both all ea eb eboth eall =
   where
     turned : (x s p q u v : Bool) → x ≡ (p && q) → p ≡ u → q ≡ v → (x && s) ≡ (s && (u && v))
     turned x s p q u v e d f = grind (arith, tells)
+
+-- who is linked to nobody shares nobody
+pub unknown-shared : (n : ℕ) (l : Links) (a b S : ℕ) → Only-members n l → (inside n a && inside n b) ≡ false → shared l a b S ≡ 0
+unknown-shared n l a b S only out = tally-same (λ k. has S k && (l a k && l b k)) (λ k. false) 64 (λ k h. gone (suc k)) ∙ tally-none 64
+  where
+    gone : (k : ℕ) → (has S k && (l a k && l b k)) ≡ false
+    gone k = let p = only a k in let q = only b k in grind (arith, tells)

@@ -5,7 +5,7 @@ use Rattle.network.specs.declared.graph.Graph.{Graph}
 use Rattle.network.specs.Rows.{adjacent}
 
 abbrev pub size-of : Graph → ℕ
-size-of g = g .n
+size-of g = g .members
 
 abbrev pub links-of : Graph → Links
 links-of g = adjacent (g .rows)

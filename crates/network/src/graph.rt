@@ -9,11 +9,11 @@ mod taking;
 // The links of a network at one moment, as models read them: the row of member a has those linked to a.
 #[derive(Clone, Copy)]
 pub struct Graph {
-    n: u32,
+    members: u32,
     rows: [MemberSet; 64],
-    ghost some: { 1 ≤ n },
-    ghost few: { n ≤ 64 },
+    ghost some: { 1 ≤ members },
+    ghost few: { members ≤ 64 },
     ghost both_ways: { Both-ways (adjacent rows) },
     ghost not_itself: { Not-itself (adjacent rows) },
-    ghost only_members: { Only-members n (adjacent rows) },
+    ghost only_members: { Only-members members (adjacent rows) },
 }

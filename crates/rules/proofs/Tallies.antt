@@ -30,6 +30,11 @@ tally-mono p q (suc n) f =
     one true false f = absurd (f tt)
     one false c f = zero-le
 
+pub tally-none : (n : ℕ) → tally (λ a. false) n ≡ 0
+unfolding tally
+tally-none zero = refl
+tally-none (suc n) = let e = tally-none n in omega arith
+
 -- one number beyond n more, or one of 1 to n more
 pub tally-out : (p : ℕ → Bool) (v n : ℕ) → n < v → tally (λ b. eqb b v || p b) n ≡ tally p n
 unfolding tally

@@ -120,7 +120,7 @@ impl MemberSet {
     pub fn smallest(self) -> Option<u32>
         ensures { λ r. ⌜ Smallest (self .word) r ⌝ }
     {
-        if self.word == 0 {
+        if self.is_empty() {
             return None;
         }
         Some(self.word.trailing_zeros() + 1)

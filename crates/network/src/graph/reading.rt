@@ -1,6 +1,7 @@
 ghost use mathlib.Core.Path.{_≡_};
 ghost use Prim.Native.Nat.{ℕ};
-ghost use Rattle.rules.specs.Sets.{has};
+ghost use mathlib.Core.Bool.{false, _&&_};
+ghost use Rattle.rules.specs.Sets.{has, inside};
 ghost use Rattle.rules.specs.Links.{Lawful-links, shared};
 ghost use Rattle.network.specs.Graphs.{size-of, links-of};
 use crate::graph::Graph;
@@ -12,7 +13,7 @@ impl Graph {
         ensures value { λ r. ⌜ r ≡ size-of (now (self .entry)) ⌝ }
         ensures lawful { λ _. ⌜ Lawful-links (size-of (now (self .entry))) (links-of (now (self .entry))) ⌝ }
     {
-        self.n
+        self.members
     }
 
     // The members linked to a; nobody where a is unknown.
@@ -32,9 +33,10 @@ impl Graph {
         self.neighbours(a).has(b)
     }
 
-    // How many members of the set are linked to both a and b.
+    // How many members of the set are linked to both a and b; 0 where one of them is unknown.
     pub fn shared(&self, a: u32, b: u32, set: MemberSet) -> u32
-        ensures { λ r. ⌜ r ≡ shared (links-of (now (self .entry))) a b (set .word) ⌝ }
+        ensures value { λ r. ⌜ r ≡ shared (links-of (now (self .entry))) a b (set .word) ⌝ }
+        ensures unknown { λ r. ⌜ ((inside (size-of (now (self .entry))) a && inside (size-of (now (self .entry))) b) ≡ false → r ≡ 0) ⌝ }
     {
         self.neighbours(a)
             .intersection(self.neighbours(b))

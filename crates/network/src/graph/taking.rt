@@ -12,12 +12,12 @@ impl Graph {
         ensures members { λ r. ⌜ size-of r ≡ N·Network .members (now (net .entry)) ⌝ }
         ensures links { λ r. ⌜ links-of r ≡ N·Network .links (now (net .entry)) ⌝ }
     {
-        let n = net.n();
+        let members = net.n();
         let mut rows = [MemberSet::empty(); 64];
-        for i in 0..n {
+        for i in 0..members {
             rows[i as usize] = linked_to(net, i + 1);
         }
-        Graph { n, rows }
+        Graph { members, rows }
     }
 }
 

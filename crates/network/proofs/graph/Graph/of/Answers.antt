@@ -20,10 +20,10 @@ loop-i-again g c =
 pub ghost-result : need.ghost-result
 ghost-result g c =
     let net = c .args .net .now in
-    let laws = subst (λ (n : ℕ). Lawful-links n (g .N·Network .links net)) (sym (c .n-n .ensures)) (g .N·Network·met .lawful net) in
-    let i : c .loop-i .i ≡ c .n-n .result = omega arith in
-    let same = sym (fill-all (g .N·Network .links net) (c .loop-i .rows) (c .n-n .result) (laws .only-members) (subst (λ (n : ℕ). Filled (g .N·Network .links net) n (c .loop-i .rows)) i (c .loop-i .inv .1))) in
-    (laws .some, (laws .few, (subst Both-ways same (laws .both-ways), (subst Not-itself same (laws .not-itself), (subst (Only-members (c .n-n .result)) same (laws .only-members), tt)))))
+    let laws = subst (λ (n : ℕ). Lawful-links n (g .N·Network .links net)) (sym (c .n-members .ensures)) (g .N·Network·met .lawful net) in
+    let i : c .loop-i .i ≡ c .n-members .result = omega arith in
+    let same = sym (fill-all (g .N·Network .links net) (c .loop-i .rows) (c .n-members .result) (laws .only-members) (subst (λ (n : ℕ). Filled (g .N·Network .links net) n (c .loop-i .rows)) i (c .loop-i .inv .1))) in
+    (laws .some, (laws .few, (subst Both-ways same (laws .both-ways), (subst Not-itself same (laws .not-itself), (subst (Only-members (c .n-members .result)) same (laws .only-members), tt)))))
 
 pub returns : need.returns
 returns g c =
@@ -31,6 +31,6 @@ returns g c =
     let laws = g .N·Network·met .lawful net in
     let i : c .loop-i .i ≡ g .N·Network .members net = omega arith in
     record {
-      members = c .n-n .ensures;
+      members = c .n-members .ensures;
       links = fill-all (g .N·Network .links net) (c .loop-i .rows) (g .N·Network .members net) (laws .only-members) (subst (λ (n : ℕ). Filled (g .N·Network .links net) n (c .loop-i .rows)) i (c .loop-i .inv .1));
     }

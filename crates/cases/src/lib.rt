@@ -1,0 +1,3 @@
+// Worked cases, run as tests.
+#[cfg(test)]
+mod tests;
