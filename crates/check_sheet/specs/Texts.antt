@@ -1,5 +1,5 @@
 -- What is written of a reply. Assumes nothing.
-use mathlib.Core.List.{List, _++_}
+use mathlib.Core.List.{List, [], _∷_, _++_}
 use Prim.Native.Nat.{ℕ}
 use lib.Chars.{codes}
 use Rattle.std.specs.Written.{decimal}
@@ -16,8 +16,9 @@ standing-text (standing.Loose a) = codes "loose " ++ decimal a
 standing-text (standing.Apart a b) = codes "apart " ++ (decimal a ++ (codes " " ++ decimal b))
 standing-text standing.Group = codes "group"
 
+-- 63 is the question mark
 abbrev pub reply-text : Reply → List ℕ
 reply-text Done = codes "ok"
 reply-text (Refused e) = codes "no " ++ decimal (refusal-number e)
 reply-text (Judged standing) = standing-text standing
-reply-text Unreadable = codes "?"
+reply-text Unreadable = 63 ∷ []

@@ -1,11 +1,11 @@
 -- The rows after a link and an unlink: their links, the laws that these keep, and their number. Assumes nothing.
 use mathlib.Core.Path.{_≡_, refl, sym, ap, _∙_, subst, fun-ext}
 use mathlib.Core.Bool.{Bool, true, false, not, _&&_, _||_}
-use mathlib.Core.Logic.{_⊎_, inl, inr}
+use mathlib.Core.Logic.{inl, inr}
 use mathlib.Core.List.{List}
 use Prim.Native.Nat.{ℕ, zero, suc, _+_, _-_, _≤_, _<_}
 use native.Mathlib.Omega.{arith}
-use lib.Dec.{T, eqb, leb}
+use lib.Dec.{eqb, leb}
 use lib.ListN.{getD, set, length, length-set, replicate}
 use lib.Seq.{getD-set-same, getD-set-other}
 use Rattle.std.specs.declared.option.Option.the-variants.{None}
@@ -14,7 +14,6 @@ use Rattle.std.proofs.shelf.Ways.{tells}
 use Rattle.vocabulary.specs.declared.refusal.Refusal.the-variants.{AlreadyLinked, NotLinked, NoRoom}
 use Rattle.rules.specs.Sets.{has, inside}
 use Rattle.rules.specs.Links.{Links, no-links, Both-ways, Not-itself, Only-members, joins, linking, unlinking, link-count}
-use Rattle.rules.proofs.Tests.{as-true}
 use Rattle.rules.proofs.Digits.{nobody as nobody-in}
 use Rattle.rules.proofs.Members.{inside-from, inside-to}
 use Rattle.rules.proofs.Links.{linking-both, linking-itself, linking-only, unlinking-both, unlinking-itself, unlinking-only, count-linking, count-unlinking, count-none}

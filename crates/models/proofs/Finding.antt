@@ -1,7 +1,7 @@
 -- What the loops over members have found when they end. Assumes nothing.
-use mathlib.Core.Path.{_≡_, refl, sym, ap, _∙_, subst}
-use mathlib.Core.Bool.{Bool, true, false, _&&_}
-use mathlib.Core.Logic.{_⊎_, inl, inr}
+use mathlib.Core.Path.{_≡_, sym, subst}
+use mathlib.Core.Bool.{false, _&&_}
+use mathlib.Core.Logic.{inl, inr}
 use Prim.Native.Nat.{ℕ, _^_, _≤_, _<_}
 use native.Mathlib.Omega.{arith}
 use lib.Dec.{T, ltb}
@@ -55,9 +55,6 @@ module _ (n : ℕ) (l : Links) (m : Meaning) (S B : ℕ) (word : S < 2 ^ 64) (B-
 
   all-known : Empty-set B → Set-of n S
   all-known none x t = elim (cases-lt n x) [ inl g ↦ absurd (fails (none x) (above-from S n B B-is x t g)) | inr g ↦ known x t g ]
-
-  pub stands-empty : Empty-set S → Stands-only n l m S standing.Empty
-  stands-empty = only standing.Empty
 
   pub stands-unknown : (a : ℕ) → Lowest B a → Stands-only n l m S (standing.Unknown a)
   stands-unknown a low = only (standing.Unknown a) (record {

@@ -1,24 +1,21 @@
 -- A sheet read number by number. Assumes nothing.
-use mathlib.Core.Path.{_≡_, refl, sym, ap, ap₂, _∙_, subst}
+use mathlib.Core.Path.{_≡_, refl, sym, ap, _∙_}
 use mathlib.Core.Bool.{Bool, true, false, not, _&&_, _||_}
-use mathlib.Core.Logic.{_⊎_, inl, inr}
 use mathlib.Core.List.{List, [], _∷_}
-use Prim.Native.Nat.{ℕ, zero, suc, _+_, _≤_, _<_}
+use Prim.Native.Nat.{ℕ, _+_, _≤_, _<_}
 use native.Mathlib.Numerals.{add-one}
 use native.Mathlib.Omega.{arith}
-use lib.Dec.{T, eqb, leb}
+use lib.Dec.{eqb}
 use lib.ListN.{length, getD, drop}
 use lib.Seq.{drop-cons}
-use Rattle.std.specs.declared.option.Option.{Option}
 use Rattle.std.specs.declared.option.Option.the-variants.{Some, None}
 use Rattle.std.proofs.shelf.Lists.{drop-all}
 use Rattle.std.proofs.shelf.Tests.{cond-true, cond-false}
 use Rattle.std.proofs.shelf.Ways.{tells}
-use Rattle.vocabulary.specs.declared.refusal.Refusal.{Refusal}
 use Rattle.vocabulary.specs.declared.refusal.Refusal.the-variants.{OutOfRange, BadSheet}
-use Rattle.rules.specs.Sets.{has, inside, Empty-set}
+use Rattle.rules.specs.Sets.{has, inside}
 use Rattle.rules.specs.Refusals.{try, unknown}
-use Rattle.rules.specs.Sheets.{on, no-numbers, naming-refusal, sheet-refusal}
+use Rattle.rules.specs.Sheets.{on, naming-refusal, sheet-refusal}
 use Rattle.models.specs.Sheets.{Named}
 
 -- after i numbers, those before are named and none of them was turned down
@@ -27,9 +24,6 @@ pub record Naming (n : ℕ) (sheet : List ℕ) (i S : ℕ) : Type 0 where
   pub named : (a : ℕ) → has S a ≡ on before a
   pub tried : naming-refusal n [] sheet ≡ naming-refusal n before (drop i sheet)
   pub whole : (a : ℕ) → on sheet a ≡ (on before a || on (drop i sheet) a)
-
-pub naming-start : (n : ℕ) (sheet : List ℕ) (S : ℕ) → Empty-set S → Naming n sheet 0 S
-naming-start n sheet S none = record { before = []; named = none; tried = refl; whole = λ a. refl }
 
 pub some-numbers : (n : ℕ) (sheet : List ℕ) → (length sheet ≡ 0 → ⊥) → sheet-refusal n sheet ≡ naming-refusal n [] sheet
 some-numbers n [] d = absurd (d refl)

@@ -1,13 +1,13 @@
 -- A loop over the members of a set: what is true of those that have come. Assumes nothing.
-use mathlib.Core.Path.{_≡_, refl, sym, ap, _∙_, subst}
-use mathlib.Core.Bool.{Bool, true, false, not, _&&_}
-use mathlib.Core.Logic.{_⊎_, inl, inr}
-use Prim.Native.Nat.{ℕ, _≤_, _<_}
+use mathlib.Core.Path.{sym, subst}
+use mathlib.Core.Bool.{not}
+use mathlib.Core.Logic.{inl, inr}
+use Prim.Native.Nat.{ℕ, _<_}
 use native.Mathlib.Omega.{arith}
 use lib.Dec.{T, eqb, not-T, eqb→eq}
 use Rattle.std.proofs.shelf.Tests.{cases-eq}
 use Rattle.rules.specs.Sets.{has, Empty-set, Leaves, Lowest}
-use Rattle.rules.proofs.Tests.{fails, either-way, and-left, and-both}
+use Rattle.rules.proofs.Tests.{fails, and-left, and-both}
 
 -- of the members of S, those that are still to come are rest, and P is true of all others
 pub record Swept (S : ℕ) (P : ℕ → Type 0) (rest : ℕ) : Type 0 where

@@ -1,7 +1,7 @@
 -- The links that rows of sets hold. Assumes nothing.
 use mathlib.Core.Bool.{false}
 use mathlib.Core.List.{List}
-use Prim.Native.Nat.{ℕ, zero, suc}
+use Prim.Native.Nat.{zero, suc}
 use lib.ListN.{getD}
 use Rattle.sets.specs.declared.member_set.MemberSet.{MemberSet}
 use Rattle.rules.specs.Sets.{has}

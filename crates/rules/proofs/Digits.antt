@@ -3,10 +3,10 @@ use mathlib.Core.Path.{_≡_, refl, sym, ap, ap₂, _∙_, subst}
 use mathlib.Core.Bool.{Bool, true, false, cond, not, _&&_, _||_}
 use mathlib.Core.Logic.{_⊎_, inl, inr}
 use Prim.Native.Nat.{ℕ, zero, suc, _+_, _-_, _*_, _/_, _%_, _^_, _≤_, _<_, zero-le}
-use native.Mathlib.Nat.{le-refl, le-of-suc-le-suc, not-suc-le-zero, mod-lt, zero-add, div-add-mod', div-one, lt-of-lt-of-le, mod-eq-of-lt}
+use native.Mathlib.Nat.{le-refl, le-of-suc-le-suc, not-suc-le-zero, mod-lt, zero-add, div-one, lt-of-lt-of-le, mod-eq-of-lt}
 use native.Mathlib.Numerals.{add-one, one-add}
 use native.Mathlib.Omega.{arith}
-use lib.Dec.{T, eqb, leb, lit<}
+use lib.Dec.{T, eqb, lit<}
 use lib.Arith.{lt-one}
 use lib.Pow.{pow-mono, pow-pos, pow-lt, shr-shr, shr-lt, high}
 use lib.Bits.{bitAnd, bitOr, bitXor, and-mask, and-shr, or-shr, xor-shr, and-mod, or-mod, xor-mod, block-odd, block-half}

@@ -1,15 +1,15 @@
 -- The links after one more or one less: they stay lawful, and their number changes by one. Assumes nothing.
 use mathlib.Core.Path.{_≡_, refl, sym, ap, ap₂, _∙_, subst, fun-ext}
 use mathlib.Core.Bool.{Bool, true, false, cond, not, _&&_, _||_}
-use mathlib.Core.Logic.{_⊎_, inl, inr}
+use mathlib.Core.Logic.{inl, inr}
 use Prim.Native.Nat.{ℕ, zero, suc, _+_, _-_, _≤_, _<_}
 use native.Mathlib.Nat.{zero-add, suc-add}
 use native.Mathlib.Omega.{arith}
-use lib.Dec.{T, eqb, leb, ltb}
-use Rattle.std.proofs.shelf.Tests.{cases-eq, cases-lt, cases-order, eq-eqb, ne-eqb, le-ltb, eqb-true, and-parts, and-right, or-cases}
+use lib.Dec.{T, eqb, ltb}
+use Rattle.std.proofs.shelf.Tests.{cases-eq, cases-lt, cases-order, le-ltb, eqb-true, and-parts, and-right, or-cases}
 use Rattle.std.proofs.shelf.Ways.{tells}
 use Rattle.rules.specs.Sets.{inside, tally}
-use Rattle.rules.specs.Links.{Links, no-links, Both-ways, Not-itself, Only-members, Lawful-links, joins, linking, unlinking, sum, link-count}
+use Rattle.rules.specs.Links.{Links, no-links, Both-ways, Not-itself, Only-members, joins, linking, unlinking, sum, link-count}
 use Rattle.rules.proofs.Tests.{as-true}
 use Rattle.rules.proofs.Members.{inside-from, inside-to}
 use Rattle.rules.proofs.Tallies.{tally-same, tally-one}

@@ -1,12 +1,11 @@
 -- Models that pair by the link and the number of shared members obey the laws. Assumes nothing.
-use mathlib.Core.Path.{_≡_, refl, sym, ap, ap₂, _∙_, subst}
-use mathlib.Core.Bool.{Bool, true, false, not, _&&_, _||_, and-comm}
-use mathlib.Core.Logic.{_⊎_, inl, inr}
-use Prim.Native.Nat.{ℕ, suc, _≤_, _<_}
+use mathlib.Core.Path.{_≡_, refl, sym, ap, ap₂}
+use mathlib.Core.Bool.{Bool, not, _&&_, _||_, and-comm}
+use Prim.Native.Nat.{ℕ, suc, _≤_}
 use native.Mathlib.Nat.{le-trans}
 use lib.Dec.{T, eqb, leb, leb→le, le→leb, T-not, not-T, eqb→eq}
 use Rattle.std.proofs.shelf.Tests.{eq-eqb}
-use Rattle.rules.specs.Sets.{has, Within, Set-of, tally}
+use Rattle.rules.specs.Sets.{has, Within}
 use Rattle.rules.specs.Links.{Links, Lawful-links, shared}
 use Rattle.rules.specs.Models.{Meaning, Lawful-model, two-of, plain}
 use Rattle.rules.proofs.Tests.{passes, same-test, and-left, and-right, and-both, and-map, or-map}

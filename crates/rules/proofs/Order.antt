@@ -1,12 +1,12 @@
 -- The order of sets: its laws, and how sizes and the lowest digit in which two words differ decide it. Assumes nothing.
-use mathlib.Core.Path.{_≡_, refl, sym, ap, _∙_, subst}
-use mathlib.Core.Bool.{Bool, true, false, cond, not}
+use mathlib.Core.Path.{_≡_, refl, sym, _∙_, subst}
+use mathlib.Core.Bool.{Bool, true, false}
 use mathlib.Core.Logic.{_⊎_, inl, inr}
-use Prim.Native.Nat.{ℕ, zero, suc, _+_, _^_, _≤_, _<_}
+use Prim.Native.Nat.{ℕ, zero, suc, _≤_, _<_}
 use native.Mathlib.Nat.{le-of-suc-le-suc, not-suc-le-zero, lt-irrefl, eq-or-lt-of-le}
 use native.Mathlib.Omega.{arith}
-use lib.Dec.{T, eqb, ltb}
-use Rattle.std.proofs.shelf.Tests.{cases-lt, cases-eq, cases-order, lt-ltb, le-ltb, eq-eqb, ne-eqb}
+use lib.Dec.{T, ltb}
+use Rattle.std.proofs.shelf.Tests.{cases-lt, cases-order, lt-ltb, le-ltb}
 use Rattle.rules.specs.Sets.{Tells, differs, has, Set-of, size}
 use Rattle.rules.specs.Order.{First, Better, Order-laws}
 use Rattle.rules.proofs.Tests.{compared, tells-by, as-false}

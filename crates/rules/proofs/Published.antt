@@ -1,15 +1,14 @@
 -- The groups of the models are the published ones. Assumes nothing.
-use mathlib.Core.Path.{_≡_, refl, sym, ap, ap₂, _∙_, subst}
+use mathlib.Core.Path.{_≡_, refl, sym, ap, _∙_, subst}
 use mathlib.Core.Bool.{Bool, true, false, cond, _&&_, _||_}
-use mathlib.Core.Logic.{_⊎_, inl, inr, _↔_}
+use mathlib.Core.Logic.{_⊎_, inl, inr}
 use mathlib.Core.List.{List, [], _∷_}
-use Prim.Native.Nat.{ℕ, zero, suc, _+_, _≤_, _<_, zero-le}
+use Prim.Native.Nat.{ℕ, zero, suc, _+_, _≤_, zero-le}
 use native.Mathlib.Nat.{le-refl, le-suc}
 use native.Mathlib.Omega.{arith}
 use lib.Dec.{T, eqb, leb, eqb→eq, leb→le, le→leb}
 use lib.ListN.{length}
-use Rattle.std.specs.declared.option.Option.{Option}
-use Rattle.std.specs.declared.option.Option.the-variants.{Some, None}
+use Rattle.std.specs.declared.option.Option.the-variants.{Some}
 use Rattle.std.proofs.shelf.Tests.{cases-eq, eq-eqb}
 use Rattle.rules.specs.Sets.{has, inside, Set-of, tally}
 use Rattle.rules.specs.Links.{Links, Lawful-links, shared}
@@ -17,8 +16,8 @@ use Rattle.rules.specs.Sheets.{on}
 use Rattle.rules.specs.Models.{Group, two-of, plain}
 use Rattle.rules.specs.Paths.{Path-in, links-of, Distance-up-to}
 use Rattle.rules.specs.Published.{Two-club, Agrees}
-use Rattle.rules.proofs.Tests.{fails, passes, either-way, and-left, and-right, and-both, or-left, or-right, or-cases}
-use Rattle.rules.proofs.Members.{inside-from, inside-to}
+use Rattle.rules.proofs.Tests.{as-true, fails, passes, and-left, and-right, and-both, or-left, or-right, or-cases}
+use Rattle.rules.proofs.Members.{inside-from, inside-to, inside-of}
 use Rattle.rules.proofs.Models.{two-from}
 
 -- ---- some number passes a test exactly when at least one does
@@ -36,11 +35,11 @@ pub one-passes : (p : ℕ → Bool) (n k : ℕ) → T (inside n k) → T (p k) �
 unfolding tally
 one-passes p zero k i t = let h = inside-from 0 k i in let g = inside-to 0 k i in absurd (omega arith)
 one-passes p (suc n) k i t = elim (cases-eq k (suc n)) [
-  | inl e ↦ let z : _≡_ {A = ℕ} (cond (p (suc n)) 1 0) 1 = ap (λ (b : Bool). cond {A = ℕ} b 1 0) (ap p (sym e) ∙ Rattle.rules.proofs.Tests.as-true (p k) t) in omega (arith, z)
+  | inl e ↦ let z : _≡_ {A = ℕ} (cond (p (suc n)) 1 0) 1 = ap (λ (b : Bool). cond {A = ℕ} b 1 0) (ap p (sym e) ∙ as-true (p k) t) in omega (arith, z)
   | inr d ↦
       let h = inside-from (suc n) k i in
       let g = inside-to (suc n) k i in
-      let rest = one-passes p n k (Rattle.rules.proofs.Members.inside-of n k h (omega arith)) t in
+      let rest = one-passes p n k (inside-of n k h (omega arith)) t in
       omega arith
 ]
 
@@ -155,7 +154,7 @@ module _ (n : ℕ) (l : Links) (N : Lawful-links n l) (S : ℕ) where
       le→leb 1 (shared l a b S) (one-passes (λ x. has S x && (l a x && l b x)) 64 k wide (and-both (has S k) (l a k && l b k) i (and-both (l a k) (l b k) s (subst T (N .both-ways k b) t))))
     where
       wide : T (inside 64 k)
-      wide = Rattle.rules.proofs.Members.inside-of 64 k (inside-from n k (small k i)) (omega (arith, inside-to n k (small k i), N .few))
+      wide = inside-of 64 k (inside-from n k (small k i)) (omega (arith, inside-to n k (small k i), N .few))
 
 pub plain-agrees : Agrees plain Two-club
 plain-agrees n l S a₀ N small i₀ = (club, group)

@@ -1,11 +1,11 @@
 -- What follows from a refusal of the ends of a link, given or not. Assumes nothing.
 use mathlib.Core.Path.{_≡_, refl, ap, _∙_}
-use mathlib.Core.Bool.{Bool, true, false, cond, not, _||_}
+use mathlib.Core.Bool.{Bool, true, false, _||_}
 use Prim.Native.Nat.{ℕ}
 use native.Mathlib.Omega.{arith}
 use lib.Dec.{T, eqb}
 use Rattle.std.specs.declared.option.Option.{Option}
-use Rattle.std.specs.declared.option.Option.the-variants.{Some, None}
+use Rattle.std.specs.declared.option.Option.the-variants.{None}
 use Rattle.std.proofs.shelf.Tests.{or-parts, not-false, eqb-false}
 use Rattle.vocabulary.specs.declared.refusal.Refusal.{Refusal}
 use Rattle.vocabulary.specs.declared.refusal.Refusal.the-variants.{OutOfRange, SameMember}
@@ -37,11 +37,3 @@ pub ends-rest : (n a b : ℕ) (rest : Option Refusal) → ends-refusal n a b Non
 ends-rest n a b rest q =
     let p = not-tried (unknown n a || unknown n b) OutOfRange (try (eqb a b) SameMember None) q in
     ap (λ (t : Bool). try t OutOfRange (try (eqb a b) SameMember rest)) (p .0) ∙ ap (λ (t : Bool). try t SameMember rest) (not-tried (eqb a b) SameMember None (p .1) .0)
-
-pub ends-refused : (n a b : ℕ) (e : Refusal) (rest : Option Refusal) → ends-refusal n a b None ≡ Some e → ends-refusal n a b rest ≡ Some e
-ends-refused n a b e rest = go (unknown n a || unknown n b) (eqb a b)
-  where
-    go : (s t : Bool) → try s OutOfRange (try t SameMember None) ≡ Some e → try s OutOfRange (try t SameMember rest) ≡ Some e
-    go true t q = q
-    go false true q = q
-    go false false q = let z : _≡_ {A = ℕ} 0 1 = cc in absurd (omega arith)

@@ -1,16 +1,15 @@
 -- A set stands in one way only. Assumes nothing.
-use mathlib.Core.Path.{_≡_, refl, sym, ap, ap₂, _∙_, subst}
-use mathlib.Core.Logic.{_⊎_, inl, inr}
-use Prim.Native.Nat.{ℕ, _<_}
+use mathlib.Core.Path.{_≡_, refl, sym, ap, ap₂, subst}
+use mathlib.Core.Logic.{inl, inr}
+use Prim.Native.Nat.{ℕ}
 use native.Mathlib.Omega.{arith}
 use lib.Dec.{T}
 use Rattle.std.proofs.shelf.Tests.{cases-order}
 use Rattle.vocabulary.specs.declared.standing.Standing.{Standing}
 use Rattle.vocabulary.specs.declared.standing.Standing.the-variants as standing
-use Rattle.rules.specs.Sets.{has, Empty-set, Set-of}
 use Rattle.rules.specs.Links.{Links}
 use Rattle.rules.specs.Models.{Meaning, All-fit, Group}
-use Rattle.rules.specs.Standings.{First-not, Pairs-above, First-apart, Stands}
+use Rattle.rules.specs.Standings.{First-not, First-apart, Stands}
 use Rattle.rules.proofs.Tests.{fails}
 
 one-first : (S : ℕ) (P : ℕ → Type 0) (a b : ℕ) → First-not S P a → First-not S P b → a ≡ b

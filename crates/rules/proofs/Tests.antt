@@ -1,6 +1,6 @@
 -- Tests that pass and fail. Assumes nothing.
-use mathlib.Core.Path.{_≡_, refl, subst}
-use mathlib.Core.Bool.{Bool, true, false, not, _&&_, _||_}
+use mathlib.Core.Path.{_≡_, refl, sym, subst}
+use mathlib.Core.Bool.{Bool, true, false, _&&_, _||_}
 use mathlib.Core.Logic.{_⊎_, inl, inr}
 use lib.Dec.{T}
 use Rattle.rules.specs.Sets.{Tells}
@@ -14,7 +14,7 @@ as-false true f = absurd (f tt)
 as-false false f = refl
 
 pub passes : {b : Bool} → b ≡ true → T b
-passes e = subst T (mathlib.Core.Path.sym e) tt
+passes e = subst T (sym e) tt
 
 pub fails : {b : Bool} → b ≡ false → T b → ⊥
 fails e t = subst T e t

@@ -1,9 +1,9 @@
-use mathlib.Core.Path.{_≡_, sym, ap, _∙_, subst}
+use mathlib.Core.Path.{sym, ap, _∙_, subst}
 use Prim.Native.Nat.{ℕ}
 use Rattle.rules.specs.Links.{Links}
 use Rattle.rules.specs.Sheets.{sheet-refusal}
 use Rattle.rules.specs.Standings.{Stands-only}
-use Rattle.network.specs.Graphs.{size-of, links-of}
+use Rattle.network.specs.Graphs.{links-of}
 use Rattle.models.proofs.sheet.judge_sheet.Needs as need
 
 pub returns : need.returns

@@ -1,10 +1,6 @@
-use mathlib.Core.Path.{_≡_, sym, ap, _∙_, subst}
-use mathlib.Core.Bool.{Bool, _&&_}
+use mathlib.Core.Path.{_≡_, sym, ap, _∙_}
 use Prim.Native.Nat.{ℕ}
-use lib.Dec.{T, ltb}
-use borrow.Author.Needs.{needs}
 use Rattle.rules.specs.Sets.{has}
-use Rattle.rules.specs.Standings.{Pairs-above}
 use Rattle.rules.proofs.Tests.{passes, fails}
 use Rattle.network.specs.Graphs.{links-of}
 use Rattle.models.proofs.Sweeping.{sweep-start, sweep-step, sweep-end}

@@ -1,8 +1,7 @@
-use mathlib.Core.Path.{_≡_, sym, ap, _∙_, subst}
+use mathlib.Core.Path.{sym, _∙_, subst}
 use mathlib.Core.Bool.{Bool}
 use Prim.Native.Nat.{ℕ}
 use lib.Dec.{ltb}
-use borrow.Author.Needs.{needs}
 use Rattle.rules.specs.Sets.{Tells, size}
 use Rattle.rules.specs.Order.{Better}
 use Rattle.rules.proofs.Order.{order-laws, by-size, by-first, not-itself}

@@ -1,8 +1,8 @@
-use mathlib.Core.Path.{_≡_, ap, _∙_}
-use Prim.Native.Nat.{ℕ, _-_, _/_, _^_, _≤_, min}
+use mathlib.Core.Path.{ap, _∙_}
+use Prim.Native.Nat.{ℕ, _-_, min}
 use native.Mathlib.Omega.{arith}
 use Rattle.std.proofs.shelf.Ways.{tells}
-use Rattle.rules.specs.Sets.{has, inside}
+use Rattle.rules.specs.Sets.{inside}
 use Rattle.rules.proofs.Digits.{has-up-to}
 use Rattle.sets.proofs.member_set.MemberSet.up_to.Needs as need
 

@@ -1,11 +1,9 @@
-use mathlib.Core.Path.{_≡_, ap, ap₂, sym, _∙_}
-use mathlib.Core.Bool.{Bool, _&&_, _||_}
+use mathlib.Core.Path.{ap, _∙_}
+use mathlib.Core.Bool.{Bool, _||_}
 use mathlib.Core.Logic.{inl, inr}
 use native.Mathlib.Omega.{arith}
-use lib.Dec.{eqb}
-use borrow.Author.Needs.{needs}
 use Rattle.std.proofs.shelf.Ways.{tells}
-use Rattle.rules.specs.Sets.{has, inside}
+use Rattle.rules.specs.Sets.{has}
 use Rattle.rules.proofs.Digits.{has-or, has-one}
 use Rattle.sets.proofs.member_set.MemberSet.with.Needs as need
 

@@ -1,10 +1,8 @@
 use mathlib.Core.Path.{_≡_, ap, _∙_}
 use mathlib.Core.Bool.{Bool, false, not, _&&_}
 use mathlib.Core.Logic.{inl, inr}
-use Prim.Native.Nat.{_^_}
 use native.Mathlib.Nat.{mod-lt}
 use native.Mathlib.Omega.{arith}
-use lib.Dec.{eqb}
 use lib.Pow.{pow-pos}
 use borrow.Author.Needs.{needs}
 use Rattle.std.proofs.shelf.Tests.{cases-eq}
