@@ -1,5 +1,5 @@
 -- What the loops over members have found when they end. Assumes nothing.
-use mathlib.Core.Path.{_≡_, sym, subst}
+use mathlib.Core.Path.{_≡_, sym, ap, _∙_, subst}
 use mathlib.Core.Bool.{false, _&&_}
 use mathlib.Core.Logic.{inl, inr}
 use Prim.Native.Nat.{ℕ, _^_, _≤_, _<_}
@@ -46,7 +46,10 @@ module _ (S a B : ℕ) (B-is : (y : ℕ) → has B y ≡ (has S y && ltb a y)) w
 
 -- ---- how a set stands; B has the members of S that the network does not
 
-module _ (n : ℕ) (l : Links) (m : Meaning) (S B : ℕ) (word : S < 2 ^ 64) (B-is : (y : ℕ) → has B y ≡ (has S y && ltb n y)) where
+module _ (n : ℕ) (l : Links) (m : Meaning) (S B top : ℕ) (word : S < 2 ^ 64) (B-top : (y : ℕ) → has B y ≡ (has S y && ltb top y)) (top-is : top ≡ n) where
+  B-is : (y : ℕ) → has B y ≡ (has S y && ltb n y)
+  B-is y = B-top y ∙ ap (λ (k : ℕ). has S y && ltb k y) top-is
+
   only : (r : Standing) → Stands n l m S r → Stands-only n l m S r
   only r x = record { stands = x; only = λ other y. one-standing n l m S other r y x }
 
