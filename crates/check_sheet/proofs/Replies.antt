@@ -13,7 +13,7 @@ use Rattle.rules.specs.Sheets.{sheet-refusal}
 use Rattle.rules.specs.Models.{plain}
 use Rattle.rules.specs.Standings.{Stands-only}
 use Rattle.models.specs.Sheets.{Named}
-use Rattle.network.specs.Rows.{adjacent}
+use Rattle.matrix.specs.Matrices.{members-of, links-of}
 use Rattle.matrix.specs.declared.matrix.Matrix.{Matrix}
 use Rattle.command.specs.Reading.{says}
 use Rattle.command.specs.declared.Command.{Command}
@@ -29,21 +29,21 @@ module _ (before : Option Matrix) (command : Command) where
   found net c r after e d h =
       subst (λ (b : Option Matrix). Answered b (says command) r after) (sym e) (subst (λ (x : Command). Answered net (says x) r after) (sym d) h)
 
-  pub opened : (n : ℕ) (net : Matrix) → before ≡ None → command ≡ Network n → making-refusal n ≡ None → net .n ≡ n → adjacent (net .rows) ≡ no-links
+  pub opened : (n : ℕ) (net : Matrix) → before ≡ None → command ≡ Network n → making-refusal n ≡ None → members-of net ≡ n → links-of net ≡ no-links
       → Answered before (says command) Done (Some net)
   opened n net e d free m l = found None (Network n) Done (Some net) e d (subst (λ (o : Option Refusal). Edited o n no-links None Done (Some net)) (sym free) (refl, (m, l)))
 
-  pub linked : (net after : Matrix) (a b : ℕ) → before ≡ Some net → command ≡ Link a b → link-refusal (net .n) 2016 (adjacent (net .rows)) a b ≡ None → after .n ≡ net .n
-      → adjacent (after .rows) ≡ linking a b (adjacent (net .rows)) → Answered before (says command) Done (Some after)
+  pub linked : (net after : Matrix) (a b : ℕ) → before ≡ Some net → command ≡ Link a b → link-refusal (members-of net) 2016 (links-of net) a b ≡ None → members-of after ≡ members-of net
+      → links-of after ≡ linking a b (links-of net) → Answered before (says command) Done (Some after)
   linked net after a b e d free m l =
       found (Some net) (Link a b) Done (Some after) e d
-      (subst (λ (o : Option Refusal). Edited o (net .n) (linking a b (adjacent (net .rows))) (Some net) Done (Some after)) (sym free) (refl, (m, l)))
+      (subst (λ (o : Option Refusal). Edited o (members-of net) (linking a b (links-of net)) (Some net) Done (Some after)) (sym free) (refl, (m, l)))
 
   pub judged : (net : Matrix) (sheet : Sheet) (numbers : List ℕ) (S : ℕ) (standing : Standing) → before ≡ Some net → command ≡ Command.Sheet sheet → numbers ≡ take (sheet .len) (sheet .bytes)
-      → sheet-refusal (net .n) numbers ≡ None → Named numbers S → Stands-only (net .n) (adjacent (net .rows)) plain S standing → Answered before (says command) (Judged standing) before
+      → sheet-refusal (members-of net) numbers ≡ None → Named numbers S → Stands-only (members-of net) (links-of net) plain S standing → Answered before (says command) (Judged standing) before
   judged net sheet numbers S standing e d on free named stands =
       found (Some net) (Command.Sheet sheet) (Judged standing) before e d (
-        subst (λ (xs : List ℕ). Judged-sheet (sheet-refusal (net .n) xs) net xs (Judged standing)) on
+        subst (λ (xs : List ℕ). Judged-sheet (sheet-refusal (members-of net) xs) net xs (Judged standing)) on
             (subst (λ (o : Option Refusal). Judged-sheet o net numbers (Judged standing)) (sym free) (S, (standing, named, stands, refl))),
         e,
       )

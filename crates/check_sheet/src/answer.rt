@@ -1,3 +1,5 @@
+ghost use Rattle.rules.specs.Published.{Two-club, Agrees};
+ghost use Rattle.models.specs.contracts.plain.PlainModel.the-impl.{ghosts};
 ghost use Rattle.command.specs.Reading.{says};
 ghost use Rattle.check_sheet.specs.Answers.{Answered};
 use crate::reply::Reply;
@@ -34,9 +36,19 @@ pub fn answer(net: &mut Option<Matrix>, command: Command) -> Reply
             }
             Err(refusal) => Reply::Refused(refusal),
         },
-        Command::Sheet(sheet) => match judge_sheet(&current, &Plain, sheet.as_slice()) {
+        Command::Sheet(sheet) => match judge_sheet(&current, &plain(), sheet.as_slice()) {
             Ok(standing) => Reply::Judged(standing),
             Err(refusal) => Reply::Refused(refusal),
         },
+    }
+}
+
+// The plain model. It is made, since its parameter is 0.
+fn plain() -> Plain
+    ensures { λ r. ⌜ Agrees (ghosts .meaning r) Two-club ⌝ }
+{
+    match Plain::new(0) {
+        Ok(plain) => plain,
+        Err(_) => unreachable(),
     }
 }

@@ -11,7 +11,7 @@ use Rattle.std.proofs.shelf.Lists.{append-nil, getD-take, getD-drop, length-app
 use Rattle.std.proofs.shelf.Tests.{eqb-false, eqb-true}
 use Rattle.std.proofs.shelf.Elements.{all-from-getD}
 use Rattle.std.specs.shelf.Lists.{All}
-use Rattle.command.specs.Grammar.{Digit, Numeral, decimal}
+use Rattle.command.specs.Grammar.{Digit, Numeral, number-written}
 use Rattle.command.specs.Scan.{Stops, Counted, Field}
 
 -- nothing stands where something does
@@ -51,7 +51,7 @@ pub one-field : (line : List ℕ) (x y : ℕ) (rest more : List ℕ) → Field l
 one-field line x y rest more p q =
     let cut = one-cut (p .digits) (q .digits) rest more (p .numeral .digits) (q .numeral .digits) (p .stops) (q .stops)
     (same-tail 32 32 _ _ (sym (p .whole) ∙ q .whole)) in
-    (p .numeral .value ∙ ap decimal (cut .0) ∙ sym (q .numeral .value), cut .1)
+    (p .numeral .value ∙ ap number-written (cut .0) ∙ sym (q .numeral .value), cut .1)
 
 -- the bytes that were counted are digits, and none follows
 pub front-digits : (xs : List ℕ) (n : ℕ) → Counted xs n → All Digit (take n xs)
@@ -77,7 +77,7 @@ counted-len line xs n x rest e h p =
 
 -- a space and the digits that were counted are a number
 pub field-made : (line xs : List ℕ) (n x : ℕ) (front back : List ℕ) → line ≡ 32 ∷ xs → Counted xs n → 1 ≤ n → n ≤ 7
-    → front ≡ take n xs → back ≡ drop n xs → x ≡ decimal front → Field line x back
+    → front ≡ take n xs → back ≡ drop n xs → x ≡ number-written front → Field line x back
 field-made line xs n x front back e h some few f b v =
     record {
       digits = take n xs;
@@ -86,7 +86,7 @@ field-made line xs n x front back e h some few f b v =
             some = omega (arith, length-take-le n xs (h .len));
             few = omega (arith, length-take-le n xs (h .len));
             digits = front-digits xs n h;
-            value = v ∙ ap decimal f;
+            value = v ∙ ap number-written f;
           };
       whole = e ∙ ap (λ ys. 32 ∷ ys) (sym (take-append-drop n xs) ∙ ap (λ ys. take n xs ++ ys) (sym b));
       stops = rw b (back-stops xs n h);

@@ -7,7 +7,7 @@ use Prim.Native.Nat.{ℕ, _<_, _≤_}
 use lib.ListN.{length, take}
 use Rattle.command.specs.declared.line_buffer.LineBuffer.{LineBuffer}
 
--- xs are all the bytes since the buffer was last empty: it holds just these, or there are too many to hold
+-- what the buffer knows where xs are the bytes since it was made or cleared: just these, or that there were too many to hold
 abbrev pub Gathered : LineBuffer → List ℕ → Type 0
 Gathered b xs =
     ((length xs ≤ 1000) × (b .over ≡ false) × (take (b .len) (b .bytes) ≡ xs)) ⊎ ((1000 < length xs) × (b .over ≡ true))

@@ -10,15 +10,15 @@ abbrev pub Digit : ℕ → Type 0
 Digit b = (48 ≤ b) × (b ≤ 57)
 
 -- the number that digits write: ten times what stands before, and the digit
-abbrev pub decimal : List ℕ → ℕ
-decimal ds = folded (λ n d. n * 10 + (d - 48)) 0 ds
+abbrev pub number-written : List ℕ → ℕ
+number-written ds = folded (λ n d. n * 10 + (d - 48)) 0 ds
 
 -- the digits that write x: one to seven of them
 pub record Numeral (ds : List ℕ) (x : ℕ) : Type 0 where
   pub some : 1 ≤ length ds
   pub few : length ds ≤ 7
   pub digits : All Digit ds
-  pub value : x ≡ decimal ds
+  pub value : x ≡ number-written ds
 
 -- a command as it is said, without the spare places of a sheet
 pub data Spelled : Type 0 where
@@ -31,7 +31,7 @@ abbrev pub Fields : List ℕ → List ℕ → Type 0
 Fields line [] = line ≡ []
 Fields line (x ∷ xs) = (ds : List ℕ) × ((rest : List ℕ) × (Numeral ds x × (x ≤ 255) × (line ≡ 32 ∷ (ds ++ rest)) × Fields rest xs))
 
--- what the line of a command looks like: its letter, as 78 for `N`, 76 for `L` and 75 for `K`, and each number behind a space
+-- what the line of a command looks like: its letter, as 78 for `N`, 76 for `L` and 75 for `K`, and each number behind a space; `K` alone is the empty sheet
 abbrev pub Form : Spelled → List ℕ → Type 0
 Form (network n) line = (ds : List ℕ) × (Numeral ds n × (line ≡ 78 ∷ (32 ∷ ds)))
 Form (link a b) line = (ds : List ℕ) × ((es : List ℕ) × (Numeral ds a × Numeral es b × (line ≡ 76 ∷ (32 ∷ (ds ++ (32 ∷ es))))))

@@ -4,7 +4,7 @@ ghost use mathlib.Core.List.{List};
 ghost use lib.ListN.{length};
 ghost use Rattle.std.specs.shelf.Lists.{All};
 ghost use Rattle.std.specs.declared.option.Option.the-variants.{Some, None};
-ghost use Rattle.command.specs.Grammar.{Digit, decimal};
+ghost use Rattle.command.specs.Grammar.{Digit, number-written};
 ghost use Rattle.command.specs.Scan.{Counted, Field};
 
 // A number has at most so many digits.
@@ -22,10 +22,10 @@ fn digits(s: &[u8]) -> usize
     s.len()
 }
 
-// The number that decimal digits write.
+// The number that number-written digits write.
 fn value(s: &[u8]) -> u32
     requires { ⌜ length (now s) ≤ 7 ⌝ ∗ ⌜ All Digit (now s) ⌝ }
-    ensures { λ r. ⌜ r ≡ decimal (now (s .entry)) ⌝ }
+    ensures { λ r. ⌜ r ≡ number-written (now (s .entry)) ⌝ }
 {
     let mut v = 0;
     for b in s {

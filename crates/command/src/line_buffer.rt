@@ -1,6 +1,6 @@
 ghost use Prim.Native.Nat.{_≤_};
 
-// The methods stand below, since their contracts speak of the whole buffer, and the fact on its length must not.
+// The methods stand in a file of their own: their contracts name the struct, whose file may not import what names it.
 mod gathering;
 
 use crate::LONGEST;

@@ -16,12 +16,13 @@ use Rattle.rules.specs.Sets.{has, inside}
 use Rattle.rules.specs.Links.{Links, no-links, Both-ways, Not-itself, Only-members, joins, linking, unlinking, link-count}
 use Rattle.rules.proofs.Digits.{nobody as nobody-in}
 use Rattle.rules.proofs.Members.{inside-from, inside-to}
-use Rattle.rules.proofs.Links.{linking-both, linking-itself, linking-only, unlinking-both, unlinking-itself, unlinking-only, count-linking, count-unlinking, count-none}
+use Rattle.rules.proofs.Links.{linking-both, linking-itself, linking-only, unlinking-both, unlinking-itself, unlinking-only, count-linking, count-unlinking, count-none, count-few}
 use Rattle.rules.specs.Refusals.{try, ends-refusal, link-refusal, unlink-refusal}
 use Rattle.rules.proofs.Refusals.{Two-members, ends-passed, ends-rest}
 use Rattle.sets.specs.declared.member_set.MemberSet.{MemberSet}
 use Rattle.network.specs.Rows.{nobody, adjacent}
 use Rattle.matrix.specs.declared.matrix.Matrix.{Matrix}
+use Rattle.matrix.specs.Matrices.{Never-full}
 
 -- what a matrix keeps of its links
 pub record Kept (n count : ℕ) (rows : List MemberSet) : Type 0 where
@@ -188,3 +189,12 @@ module _ (m : Matrix) (a b : ℕ) (q r : MemberSet) (long : length (m .rows) ≡
 
   pub unlink-taken : adjacent (m .rows) a b ≡ true → unlink-refusal (m .n) (adjacent (m .rows)) a b ≡ None
   unlink-taken held = ends-rest (m .n) a b (try (not (adjacent (m .rows) a b)) NotLinked None) ends ∙ ap (λ (t : Bool). try (not t) NotLinked None) held
+
+-- ---- how many links there can be
+
+pub never-full : Never-full
+never-full n a b l N i j d free = omega (arith, count-few n (linking a b l) (N .few), count-linking n a b i j d l (N .both-ways) free)
+
+-- one link less than at most 2016
+pub one-free : (m : Matrix) (k : ℕ) → 1 ≤ m .count → m .count - 1 ≡ k → k < 2016
+one-free m k some e = omega (arith, m .counted, count-few (m .n) (adjacent (m .rows)) (m .few))

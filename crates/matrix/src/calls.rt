@@ -1,4 +1,5 @@
-ghost use Rattle.network.specs.Rows.{adjacent};
+ghost use mathlib.Core.Path.{_≡_};
+ghost use Rattle.matrix.specs.Matrices.{members-of, links-of, Never-full};
 use crate::matrix::Matrix;
 use network::ends::check_ends;
 use network::limit::AtMost;
@@ -13,9 +14,9 @@ pub impl Network for Matrix as MatrixNetwork {
 
     const ROOM: AtMost<2016> = AtMost;
 
-    ghost members = { λ m. m .n };
+    ghost members = { members-of };
 
-    ghost links = { λ m. adjacent (m .rows) };
+    ghost links = { links-of };
 
     fn new(n: u32) -> Result<Matrix, Refusal> {
         if n < 1 || n > 64 {
@@ -30,6 +31,13 @@ pub impl Network for Matrix as MatrixNetwork {
 
     fn n(&self) -> u32 {
         self.n
+    }
+
+    fn most_links(&self) -> u32
+        ensures value { λ r. ⌜ r ≡ 2016 ⌝ }
+        ensures never_full { λ _. ⌜ Never-full ⌝ }
+    {
+        Self::ROOM.get()
     }
 
     fn linked(&self, a: u32, b: u32) -> bool {

@@ -1,26 +1,14 @@
-ghost use lib.Dec.{eqb};
 ghost use Rattle.rules.specs.Models.{plain};
-ghost use Rattle.rules.specs.Published.{Two-club, Model-made};
 use crate::model::Model;
 use network::graph::Graph;
 use sets::member_set::MemberSet;
-use vocabulary::refusal::Refusal;
+
+// The maker stands in a file of its own: its contract names the meaning that this file gives to the model.
+mod making;
 
 // The plain model, whose groups are the 2-clubs: everybody fits, and two pair when linked or when they share a member of the set.
 #[derive(Clone, Copy)]
 pub struct Plain;
-
-impl Plain {
-    // The plain model takes the parameter 0 only.
-    pub fn new(t: u32) -> Result<Plain, Refusal>
-        ensures { λ r. ⌜ Model-made (λ _. plain) (eqb t 0) Two-club r ⌝ }
-    {
-        if t != 0 {
-            return Err(Refusal::BadParameter);
-        }
-        Ok(Plain)
-    }
-}
 
 pub impl Model for Plain as PlainModel {
     ghost meaning = { λ _. plain };

@@ -9,10 +9,10 @@ use Rattle.std.proofs.shelf.Tests.{cases-eq}
 use Rattle.std.proofs.shelf.Ways.{tells}
 use Rattle.rules.specs.Sets.{has, inside, Empty-set}
 
-abbrev pub Gathered : (ℕ → Bool) → ℕ → ℕ → Type 0
-Gathered P i S = (b : ℕ) → has S b ≡ (leb b i && P b)
+abbrev pub Collected : (ℕ → Bool) → ℕ → ℕ → Type 0
+Collected P i S = (b : ℕ) → has S b ≡ (leb b i && P b)
 
-pub gather-none : (P : ℕ → Bool) (S : ℕ) → P 0 ≡ false → Empty-set S → Gathered P 0 S
+pub gather-none : (P : ℕ → Bool) (S : ℕ) → P 0 ≡ false → Empty-set S → Collected P 0 S
 gather-none P S z none b = none b ∙ elim (cases-eq b 0) [
   | inl e ↦ let p : P b ≡ false = ap P e ∙ z in grind (arith, tells)
   | inr d ↦ grind (arith, tells)
@@ -27,5 +27,5 @@ gather-step P S R i lt b inv way = elim (cases-eq b (i + 1)) [
   | inr d ↦ elim way [ inl (on, r) ↦ grind (arith, tells) | inr (off, r) ↦ grind (arith, tells) ]
 ]
 
-pub gather-all : (P : ℕ → Bool) (S n : ℕ) → ((b : ℕ) → inside n b ≡ false → P b ≡ false) → Gathered P n S → (b : ℕ) → has S b ≡ P b
+pub gather-all : (P : ℕ → Bool) (S n : ℕ) → ((b : ℕ) → inside n b ≡ false → P b ≡ false) → Collected P n S → (b : ℕ) → has S b ≡ P b
 gather-all P S n out inv b = let o = out b in inv b ∙ grind (arith, tells)

@@ -9,6 +9,7 @@ pub trait Limit {
         ensures { λ r. ⌜ r ≡ most ⌝ };
 }
 
+// The number K as such a type.
 #[derive(Clone, Copy)]
 pub struct AtMost<const K: u32>;
 

@@ -2,7 +2,7 @@ ghost use mathlib.Core.Path.{_≡_};
 ghost use Prim.Native.Nat.{ℕ, _≤_};
 ghost use Rattle.std.specs.Vec.{refused};
 ghost use Rattle.rules.specs.Links.{Links, Lawful-links, link-count};
-ghost use Rattle.rules.specs.Refusals.{Made, Linked, Unlinked};
+ghost use Rattle.rules.specs.Refusals.{Made, After-link, After-unlink, Freed};
 use crate::limit::Limit;
 use vocabulary::refusal::Refusal;
 
@@ -10,7 +10,6 @@ use vocabulary::refusal::Refusal;
 pub trait Network: Sized {
     type Room: Limit;
 
-    // The most links that a network of this kind holds.
     const ROOM: Self::Room;
 
     // how many members it has
@@ -31,19 +30,24 @@ pub trait Network: Sized {
     fn n(&self) -> u32
         ensures { λ r. ⌜ r ≡ members (now (self .entry)) ⌝ };
 
+    // The most links that a network of this kind holds.
+    fn most_links(&self) -> u32
+        ensures { λ r. ⌜ r ≡ Room·Limit .most ⌝ };
+
     // Whether two numbers are linked members; no for equal or unknown ones.
     fn linked(&self, a: u32, b: u32) -> bool
         ensures { λ r. ⌜ r ≡ links (now (self .entry)) a b ⌝ };
 
     // Adds one link.
     fn link(&mut self, a: u32, b: u32) -> Result<(), Refusal>
-        ensures after { λ r. ⌜ Linked (members (now (self .entry))) (Room·Limit .most) (links (now (self .entry))) a b (links (now (self .exit))) r ⌝ }
+        ensures after { λ r. ⌜ After-link (members (now (self .entry))) (Room·Limit .most) (links (now (self .entry))) a b (links (now (self .exit))) r ⌝ }
         ensures members { λ _. ⌜ members (now (self .exit)) ≡ members (now (self .entry)) ⌝ }
         ensures refused { λ r. ⌜ refused r (λ _. now (self .exit) ≡ now (self .entry)) ⌝ };
 
     // Takes one link away.
     fn unlink(&mut self, a: u32, b: u32) -> Result<(), Refusal>
-        ensures after { λ r. ⌜ Unlinked (members (now (self .entry))) (links (now (self .entry))) a b (links (now (self .exit))) r ⌝ }
+        ensures after { λ r. ⌜ After-unlink (members (now (self .entry))) (links (now (self .entry))) a b (links (now (self .exit))) r ⌝ }
         ensures members { λ _. ⌜ members (now (self .exit)) ≡ members (now (self .entry)) ⌝ }
+        ensures freed { λ r. ⌜ Freed (members (now (self .entry))) (Room·Limit .most) (links (now (self .exit))) r ⌝ }
         ensures refused { λ r. ⌜ refused r (λ _. now (self .exit) ≡ now (self .entry)) ⌝ };
 }

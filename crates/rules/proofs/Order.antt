@@ -8,24 +8,24 @@ use native.Mathlib.Omega.{arith}
 use lib.Dec.{T, ltb}
 use Rattle.std.proofs.shelf.Tests.{cases-lt, cases-order, lt-ltb, le-ltb}
 use Rattle.rules.specs.Sets.{Tells, differs, has, Set-of, size}
-use Rattle.rules.specs.Order.{First, Better, Order-laws}
+use Rattle.rules.specs.Order.{Holds-first, Better, Order-laws}
 use Rattle.rules.proofs.Tests.{compared, tells-by, as-false}
 use Rattle.rules.proofs.Members.{same-members, inside-to}
 
 -- ---- laws
 
 -- two sets agree on the numbers below k, or one holds the smallest number in which they differ
-first-below : (S R k : ℕ) → ((a : ℕ) → a < k → has S a ≡ has R a) ⊎ (First S R ⊎ First R S)
+first-below : (S R k : ℕ) → ((a : ℕ) → a < k → has S a ≡ has R a) ⊎ (Holds-first S R ⊎ Holds-first R S)
 first-below S R zero = inl (λ a h. absurd (not-suc-le-zero h))
 first-below S R (suc k) = elim (first-below S R k) [ inl f ↦ here f (compared (has S k) (has R k)) | inr d ↦ inr d ]
   where
     here : ((a : ℕ) → a < k → has S a ≡ has R a) → (has S k ≡ has R k) ⊎ ((T (has S k) × (T (has R k) → ⊥)) ⊎ (T (has R k) × (T (has S k) → ⊥)))
-        → ((a : ℕ) → a < suc k → has S a ≡ has R a) ⊎ (First S R ⊎ First R S)
+        → ((a : ℕ) → a < suc k → has S a ≡ has R a) ⊎ (Holds-first S R ⊎ Holds-first R S)
     here f (inl e) = inl (λ a h. elim (eq-or-lt-of-le (le-of-suc-le-suc h)) [ inl q ↦ subst (λ (x : ℕ). has S x ≡ has R x) (sym q) e | inr l ↦ f a l ])
     here f (inr (inl p)) = inr (inl (record { at = k; held = p .0; lacks = p .1; below = f }))
     here f (inr (inr p)) = inr (inr (record { at = k; held = p .0; lacks = p .1; below = λ a h. sym (f a h) }))
 
-pub first-or-same : (S R : ℕ) → Set-of 64 S → Set-of 64 R → (S ≡ R) ⊎ (First S R ⊎ First R S)
+pub first-or-same : (S R : ℕ) → Set-of 64 S → Set-of 64 R → (S ≡ R) ⊎ (Holds-first S R ⊎ Holds-first R S)
 first-or-same S R p q = elim (first-below S R 65) [
   | inl f ↦ inl (same-members S R (λ a. elim (cases-lt a 65) [ inl h ↦ f a h | inr h ↦ beyond S p a h ∙ sym (beyond R q a h) ]))
   | inr d ↦ inr d
@@ -34,7 +34,7 @@ first-or-same S R p q = elim (first-below S R 65) [
     beyond : (Q : ℕ) → Set-of 64 Q → (a : ℕ) → 65 ≤ a → has Q a ≡ false
     beyond Q small a h = as-false (has Q a) (λ t. let l = inside-to 64 a (small a t) in omega arith)
 
-first-trans : (S R Q : ℕ) → First S R → First R Q → First S Q
+first-trans : (S R Q : ℕ) → Holds-first S R → Holds-first R Q → Holds-first S Q
 first-trans S R Q f g = elim (cases-order (f .at) (g .at)) [
   | inl e ↦ absurd (f .lacks (subst (λ (x : ℕ). T (has R x)) (sym e) (g .held)))
   | inr (inl h) ↦ record { at = f .at; held = f .held; lacks = λ t. f .lacks (subst T (sym (g .below (f .at) h)) t); below = λ a l. f .below a l ∙ g .below a (omega arith) }

@@ -14,7 +14,7 @@ use Rattle.rules.specs.Sets.{has, inside, Set-of, tally}
 use Rattle.rules.specs.Links.{Links, Lawful-links, shared}
 use Rattle.rules.specs.Sheets.{on}
 use Rattle.rules.specs.Models.{Group, two-of, plain}
-use Rattle.rules.specs.Paths.{Path-in, links-of, Distance-up-to}
+use Rattle.rules.specs.Paths.{Path-in, path-length, Distance-up-to}
 use Rattle.rules.specs.Published.{Two-club, Agrees}
 use Rattle.rules.proofs.Tests.{as-true, fails, passes, and-left, and-right, and-both, or-left, or-right, or-cases}
 use Rattle.rules.proofs.Members.{inside-from, inside-to, inside-of}
@@ -123,7 +123,7 @@ module _ (n : ℕ) (l : Links) (N : Lawful-links n l) (S : ℕ) where
       pick x (inr q) = later x (on-cons k x (b ∷ []) q)
 
   -- a link, or a member between
-  pub short-way : (a b : ℕ) → (a ≡ b → ⊥) → (p : List ℕ) → Path-in l S a b p → links-of p ≤ 2 → T (l a b) ⊎ ((k : ℕ) × T (has S k) × T (l a k) × T (l k b))
+  pub short-way : (a b : ℕ) → (a ≡ b → ⊥) → (p : List ℕ) → Path-in l S a b p → path-length p ≤ 2 → T (l a b) ⊎ ((k : ℕ) × T (has S k) × T (l a k) × T (l k b))
   short-way a b d [] q h = absurd (let z : _≡_ {A = ℕ} 0 1 = cc (q .starts) in omega arith)
   short-way a b d (x ∷ []) q h = absurd (d (sym (some-same x a (q .starts)) ∙ some-same x b (q .ends)))
   short-way a b d (x ∷ (y ∷ [])) q h =

@@ -18,6 +18,7 @@ Both-ways l = (a b : ℕ) → l a b ≡ l b a
 abbrev pub Not-itself : Links → Type 0
 Not-itself l = (a : ℕ) → l a a ≡ false
 
+-- the first of two linked numbers is a member, and so, both ways, is the second
 abbrev pub Only-members : ℕ → Links → Type 0
 Only-members n l = (a b : ℕ) → inside n a ≡ false → l a b ≡ false
 

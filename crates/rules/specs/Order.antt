@@ -8,7 +8,7 @@ use Rattle.std.specs.declared.option.Option.the-variants.{Some, None}
 use Rattle.rules.specs.Sets.{has, size, Set-of}
 
 -- S holds the smallest member in which S and R differ
-pub record First (S R : ℕ) : Type 0 where
+pub record Holds-first (S R : ℕ) : Type 0 where
   pub at : ℕ
   pub held : T (has S at)
   pub lacks : T (has R at) → ⊥
@@ -16,7 +16,7 @@ pub record First (S R : ℕ) : Type 0 where
 
 -- S is better than R: it has more members, or as many and holds the smallest member in which they differ
 abbrev pub Better : ℕ → ℕ → Type 0
-Better S R = (size R < size S) ⊎ ((size S ≡ size R) × First S R)
+Better S R = (size R < size S) ⊎ ((size S ≡ size R) × Holds-first S R)
 
 -- S is better than the best: "none" is worse than every set with a member, and the empty set is not better than none
 abbrev pub Beats : ℕ → Option ℕ → Type 0

@@ -39,10 +39,10 @@ pub record Path-in (l : Links) (S a b : ℕ) (p : List ℕ) : Type 0 where
   pub ends : last p ≡ Some b
 
 -- how many links a path takes
-abbrev pub links-of : List ℕ → ℕ
-links-of [] = 0
-links-of (x ∷ p) = length p
+abbrev pub path-length : List ℕ → ℕ
+path-length [] = 0
+path-length (x ∷ p) = length p
 
 -- the distance of a and b in S is at most k
 abbrev pub Distance-up-to : ℕ → Links → ℕ → ℕ → ℕ → Type 0
-Distance-up-to k l S a b = (p : List ℕ) × Path-in l S a b p × (links-of p ≤ k)
+Distance-up-to k l S a b = (p : List ℕ) × Path-in l S a b p × (path-length p ≤ k)

@@ -1,7 +1,7 @@
 -- What the calls of a network turn down, in the order in which they try it, and what they leave. Assumes nothing.
 use mathlib.Core.Path.{_≡_}
 use mathlib.Core.Bool.{Bool, cond, not, _||_}
-use Prim.Native.Nat.{ℕ}
+use Prim.Native.Nat.{ℕ, _<_}
 use lib.Dec.{eqb, leb}
 use Rattle.std.specs.declared.option.Option.{Option}
 use Rattle.std.specs.declared.option.Option.the-variants.{Some, None}
@@ -24,12 +24,15 @@ unknown n a = not (inside n a)
 abbrev pub ends-refusal : ℕ → ℕ → ℕ → Option Refusal → Option Refusal
 ends-refusal n a b rest = try (unknown n a || unknown n b) OutOfRange (try (eqb a b) SameMember rest)
 
+-- why no network of n members is made
 abbrev pub making-refusal : ℕ → Option Refusal
-making-refusal n = try (unknown 64 n) OutOfRange None
+making-refusal n = try (not (inside 64 n)) OutOfRange None
 
+-- why a and b are not linked, where the network holds the links l and has room for so many
 abbrev pub link-refusal : ℕ → ℕ → Links → ℕ → ℕ → Option Refusal
 link-refusal n room l a b = ends-refusal n a b (try (l a b) AlreadyLinked (try (leb room (link-count n l)) NoRoom None))
 
+-- why a and b are not unlinked
 abbrev pub unlink-refusal : ℕ → Links → ℕ → ℕ → Option Refusal
 unlink-refusal n l a b = ends-refusal n a b (try (not (l a b)) NotLinked None)
 
@@ -38,16 +41,21 @@ abbrev pub Checks : Option Refusal → Result (Unit {0}) Refusal → Type 0
 Checks refusal (Ok _) = refusal ≡ None
 Checks refusal (Err e) = refusal ≡ Some e
 
--- a new network of n members has no links
+-- a new network has n members and no links
 abbrev pub Made : {N : Type 0} → (N → ℕ) → (N → Links) → ℕ → Result N Refusal → Type 0
 Made members links n (Ok net) = (making-refusal n ≡ None) × (members net ≡ n) × (links net ≡ no-links)
 Made members links n (Err e) = making-refusal n ≡ Some e
 
--- the links k after a call that found the links l
-abbrev pub Linked : ℕ → ℕ → Links → ℕ → ℕ → Links → Result (Unit {0}) Refusal → Type 0
-Linked n room l a b k (Ok _) = (link-refusal n room l a b ≡ None) × (k ≡ linking a b l)
-Linked n room l a b k (Err e) = (link-refusal n room l a b ≡ Some e) × (k ≡ l)
+-- the links k after a link or an unlink that found the links l
+abbrev pub After-link : ℕ → ℕ → Links → ℕ → ℕ → Links → Result (Unit {0}) Refusal → Type 0
+After-link n room l a b k (Ok _) = (link-refusal n room l a b ≡ None) × (k ≡ linking a b l)
+After-link n room l a b k (Err e) = (link-refusal n room l a b ≡ Some e) × (k ≡ l)
 
-abbrev pub Unlinked : ℕ → Links → ℕ → ℕ → Links → Result (Unit {0}) Refusal → Type 0
-Unlinked n l a b k (Ok _) = (unlink-refusal n l a b ≡ None) × (k ≡ unlinking a b l)
-Unlinked n l a b k (Err e) = (unlink-refusal n l a b ≡ Some e) × (k ≡ l)
+abbrev pub After-unlink : ℕ → Links → ℕ → ℕ → Links → Result (Unit {0}) Refusal → Type 0
+After-unlink n l a b k (Ok _) = (unlink-refusal n l a b ≡ None) × (k ≡ unlinking a b l)
+After-unlink n l a b k (Err e) = (unlink-refusal n l a b ≡ Some e) × (k ≡ l)
+
+-- a place is free again after a taken unlink
+abbrev pub Freed : ℕ → ℕ → Links → Result (Unit {0}) Refusal → Type 0
+Freed n room k (Ok _) = link-count n k < room
+Freed n room k (Err e) = Unit {0}

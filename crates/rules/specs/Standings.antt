@@ -39,6 +39,7 @@ abbrev pub First-unpaired : Links → Meaning → ℕ → Option (ℕ × ℕ) �
 First-unpaired l m S None = (a : ℕ) → T (has S a) → Pairs-above l m S a
 First-unpaired l m S (Some p) = First-apart l m S (p .0) (p .1)
 
+-- the ways in which S stands in a network of n members with the links l
 abbrev pub Stands : ℕ → Links → Meaning → ℕ → Standing → Type 0
 Stands n l m S standing.Empty = Empty-set S
 Stands n l m S (standing.Unknown a) = First-not S (λ x. T (inside n x)) a

@@ -1,3 +1,3 @@
-// Sets of members, and the sheets that name them.
+// Sets of members.
 pub mod member_set;
 pub mod members;

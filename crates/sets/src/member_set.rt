@@ -2,7 +2,7 @@ ghost use mathlib.Core.Path.{_≡_};
 ghost use mathlib.Core.Bool.{not, _&&_, _||_};
 ghost use Prim.Native.Nat.{ℕ};
 ghost use lib.Dec.{eqb, ltb};
-ghost use Rattle.rules.specs.Sets.{Tells, differs, inside, has, Empty-set, Within, size, Smallest, Same-members, Size-laws};
+ghost use Rattle.rules.specs.Sets.{Tells, differs, inside, has, Empty-set, Within, Set-of, Leaves, size, Smallest, Same-members, Size-laws};
 ghost use Rattle.rules.specs.Order.{Better, Beats, Order-laws};
 ghost use Rattle.sets.specs.Words.{word-of};
 use crate::members::Members;
@@ -35,6 +35,7 @@ impl MemberSet {
     // No number outside 1 to 64 is in any set.
     pub fn has(self, a: u32) -> bool
         ensures value { λ r. ⌜ r ≡ has (self .word) a ⌝ }
+        ensures numbers { λ _. ⌜ Set-of 64 (self .word) ⌝ }
         ensures same { λ _. ⌜ Same-members ⌝ }
     {
         if a < 1 || a > 64 {
@@ -56,7 +57,7 @@ impl MemberSet {
     }
 
     pub fn without(self, a: u32) -> MemberSet
-        ensures { λ r. ⌜ ((b : ℕ) → has (r .word) b ≡ (has (self .word) b && not (eqb b a))) ⌝ }
+        ensures { λ r. ⌜ Leaves (self .word) a (r .word) ⌝ }
     {
         if a < 1 || a > 64 {
             return self;

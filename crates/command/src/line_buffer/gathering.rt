@@ -42,7 +42,6 @@ impl LineBuffer {
 
     // The line's bytes, unless there were too many.
     pub fn text(&self) -> Option<&[u8]>
-        ensures value { λ r. ⌜ elim r [ Some t ↦ now t ≡ take (now (self .entry) .len) (now (self .entry) .bytes) | None ↦ Unit {0} ] ⌝ }
         ensures cases { λ r. ⌜ ((xs : List ℕ) → Gathered (now (self .entry)) xs → elim r [ Some t ↦ (length xs ≤ 1000) × (now t ≡ xs) | None ↦ 1000 < length xs ]) ⌝ }
     {
         if self.over {
@@ -52,7 +51,7 @@ impl LineBuffer {
         }
     }
 
-    // Whether no byte was pushed since the buffer was last empty.
+    // Whether no byte was pushed since the buffer was made or cleared.
     pub fn is_empty(&self) -> bool
         ensures cases { λ r. ⌜ ((xs : List ℕ) → Gathered (now (self .entry)) xs → Decides r (xs ≡ [])) ⌝ }
     {

@@ -8,7 +8,7 @@ use lib.Dec.{lit<}
 use Rattle.std.proofs.shelf.Sums.{folded-more}
 use Rattle.std.proofs.shelf.Lists.{take-all}
 use Rattle.std.proofs.shelf.Elements.{all-getD}
-use Rattle.command.specs.Grammar.{Digit, decimal}
+use Rattle.command.specs.Grammar.{Digit, number-written}
 use Rattle.command.proofs.field.value.Needs as need
 
 -- a power of ten up to the sixth
@@ -41,4 +41,4 @@ loop-b-again c =
     )
 
 pub returns : need.returns
-returns c = c .loop-b .inv .0 ∙ ap decimal (take-all _ (c .args .s .now) (c .loop-b-test .left))
+returns c = c .loop-b .inv .0 ∙ ap number-written (take-all _ (c .args .s .now) (c .loop-b-test .left))

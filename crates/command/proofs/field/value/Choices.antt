@@ -2,8 +2,8 @@
 use mathlib.Core.Path.{_≡_}
 use Prim.Native.Nat.{_<_, _^_}
 use lib.ListN.{take}
-use Rattle.command.specs.Grammar.{decimal}
+use Rattle.command.specs.Grammar.{number-written}
 use Rattle.command.proofs.field.value.Given as given
 
 abbrev pub Inv-loop-b : given.InvT-loop-b
-Inv-loop-b l = (l .v ≡ decimal (take (l .b-index) (l .s))) × (l .v < 10 ^ l .b-index)
+Inv-loop-b l = (l .v ≡ number-written (take (l .b-index) (l .s))) × (l .v < 10 ^ l .b-index)

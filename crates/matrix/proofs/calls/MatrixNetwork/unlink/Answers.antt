@@ -1,6 +1,6 @@
 use mathlib.Core.Path.{refl, sym, _∙_}
 use borrow.Author.Needs.{needs}
-use Rattle.matrix.proofs.Edits.{without-link, unlink-taken}
+use Rattle.matrix.proofs.Edits.{without-link, unlink-taken, one-free}
 use Rattle.matrix.proofs.calls.MatrixNetwork.unlink.Needs as need
 
 pub sub-self : need.sub-self
@@ -25,4 +25,4 @@ returns c =
     let ends = c .in-Continue-check-ends .ensures tt in
     let linked = sym (c .linked .ensures) ∙ c .if-not-linked .left in
     let held = without-link m (c .args .a) (c .args .b) (c .without .result) (c .without-2 .result) (search needs) ends (c .without .ensures) (c .without-2 .ensures) linked in
-    record { after = (unlink-taken m (c .args .a) (c .args .b) (c .without .result) (c .without-2 .result) (search needs) ends linked, held .1 .links); members = refl; refused = tt }
+    record { after = (unlink-taken m (c .args .a) (c .args .b) (c .without .result) (c .without-2 .result) (search needs) ends linked, held .1 .links); members = refl; freed = one-free m _ (held .0) (held .1 .kept .counted); refused = tt }
