@@ -1,4 +1,4 @@
-ghost use Rattle.network.specs.Graphs.{size-of};
+ghost use Rattle.network.specs.Graphs.{members-of};
 ghost use Rattle.models.specs.Sheets.{Sheet-read, Sheet-judged};
 use crate::model::Model;
 use crate::standing::check_group;
@@ -10,7 +10,7 @@ use vocabulary::standing::Standing;
 
 // The set of members that a sheet names, one number each in any order.
 pub fn read_sheet(graph: &Graph, sheet: &[u8]) -> Result<MemberSet, Refusal>
-    ensures { λ r. ⌜ Sheet-read (size-of (now (graph .entry))) (now (sheet .entry)) r ⌝ }
+    ensures { λ r. ⌜ Sheet-read (members-of (now (graph .entry))) (now (sheet .entry)) r ⌝ }
 {
     if sheet.is_empty() {
         return Err(Refusal::BadSheet);

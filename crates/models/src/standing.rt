@@ -1,5 +1,5 @@
 ghost use Rattle.rules.specs.Standings.{First-loose, First-unpaired, Stands-only};
-ghost use Rattle.network.specs.Graphs.{size-of, links-of};
+ghost use Rattle.network.specs.Graphs.{members-of, links-of};
 use crate::model::Model;
 use network::graph::Graph;
 use sets::member_set::MemberSet;
@@ -36,7 +36,7 @@ pub fn first_unpaired<M: Model>(model: &M, graph: &Graph, set: MemberSet) -> Opt
 
 // How the set stands in the network under the model: a group of it, or the first thing that is wrong.
 pub fn check_group<M: Model>(model: &M, graph: &Graph, set: MemberSet) -> Standing
-    ensures { λ r. ⌜ Stands-only (size-of (now (graph .entry))) (links-of (now (graph .entry))) (M·Model .meaning (now (model .entry))) (set .word) r ⌝ }
+    ensures { λ r. ⌜ Stands-only (members-of (now (graph .entry))) (links-of (now (graph .entry))) (M·Model .meaning (now (model .entry))) (set .word) r ⌝ }
 {
     if set.is_empty() {
         return Standing::Empty;

@@ -4,8 +4,8 @@ use Rattle.rules.specs.Links.{Links}
 use Rattle.network.specs.declared.graph.Graph.{Graph}
 use Rattle.network.specs.Rows.{adjacent}
 
-abbrev pub size-of : Graph → ℕ
-size-of g = g .members
+abbrev pub members-of : Graph → ℕ
+members-of g = g .members
 
 abbrev pub links-of : Graph → Links
 links-of g = adjacent (g .rows)

@@ -20,7 +20,7 @@ pub record First-not (S : ℕ) (P : ℕ → Type 0) (a : ℕ) : Type 0 where
 abbrev pub Pairs-above : Links → Meaning → ℕ → ℕ → Type 0
 Pairs-above l m S x = (y : ℕ) → T (has S y) → x < y → T (m .pairs l S x y)
 
--- a and b are members of S that do not pair in it, a the smallest such, and b the smallest above it that does not pair with a
+-- a and b are members of S that do not pair in it: a is the smallest that does not pair with some member above it, b the smallest above a that does not pair with a
 pub record First-apart (l : Links) (m : Meaning) (S a b : ℕ) : Type 0 where
   pub one : T (has S a)
   pub two : T (has S b)

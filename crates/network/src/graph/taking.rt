@@ -1,7 +1,7 @@
 ghost use mathlib.Core.Path.{_≡_};
 ghost use Prim.Native.Nat.{ℕ};
 ghost use Rattle.rules.specs.Sets.{has};
-ghost use Rattle.network.specs.Graphs.{size-of, links-of};
+ghost use Rattle.network.specs.Graphs.{members-of, links-of};
 use crate::graph::Graph;
 use crate::network::Network;
 use sets::member_set::MemberSet;
@@ -9,7 +9,7 @@ use sets::member_set::MemberSet;
 impl Graph {
     // The links of any network as it stands.
     pub fn of<N: Network>(net: &N) -> Graph
-        ensures members { λ r. ⌜ size-of r ≡ N·Network .members (now (net .entry)) ⌝ }
+        ensures members { λ r. ⌜ members-of r ≡ N·Network .members (now (net .entry)) ⌝ }
         ensures links { λ r. ⌜ links-of r ≡ N·Network .links (now (net .entry)) ⌝ }
     {
         let members = net.n();

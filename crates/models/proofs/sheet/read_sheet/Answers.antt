@@ -8,13 +8,13 @@ use lib.ListN.{getD}
 use Rattle.std.proofs.shelf.Tests.{eqb-false}
 use Rattle.std.proofs.shelf.Ways.{tells}
 use Rattle.rules.specs.Sets.{has, inside}
-use Rattle.network.specs.Graphs.{size-of}
+use Rattle.network.specs.Graphs.{members-of}
 use Rattle.models.proofs.Sheets.{some-numbers, naming-unknown, naming-twice, naming-step, naming-end}
 use Rattle.models.proofs.sheet.read_sheet.Needs as need
 
 pub returns-then-a-lt1 : need.returns-then-a-lt1
 returns-then-a-lt1 c =
-    let n = size-of (c .args .graph .now) in
+    let n = members-of (c .args .graph .now) in
     let sheet = c .args .sheet .now in
     let i = c .loop-number .number-index in
     let a = c .from-a .ensures in
@@ -24,7 +24,7 @@ returns-then-a-lt1 c =
 
 pub returns-then-has : need.returns-then-has
 returns-then-has c =
-    let n = size-of (c .args .graph .now) in
+    let n = members-of (c .args .graph .now) in
     let sheet = c .args .sheet .now in
     let i = c .loop-number .number-index in
     let a = c .from-a .ensures in
@@ -35,7 +35,7 @@ returns-then-has c =
 
 pub loop-number-again : need.loop-number-again
 loop-number-again c =
-    let n = size-of (c .args .graph .now) in
+    let n = members-of (c .args .graph .now) in
     let sheet = c .args .sheet .now in
     let i = c .loop-number .number-index in
     let a = c .from-a .ensures in
@@ -47,7 +47,7 @@ loop-number-again c =
 
 pub returns : need.returns
 returns c =
-    let n = size-of (c .args .graph .now) in
+    let n = members-of (c .args .graph .now) in
     let sheet = c .args .sheet .now in
     let end = naming-end n sheet (c .loop-number .number-index) (c .loop-number .named .word) (c .loop-number .inv) (c .loop-number-test .left) in
     (some-numbers n sheet (eqb-false _ _ (sym (c .if-is-empty .ensures tt))) ∙ end .0, end .1)

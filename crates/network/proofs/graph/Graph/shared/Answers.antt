@@ -1,6 +1,6 @@
 use mathlib.Core.Path.{_≡_, _∙_}
 use Rattle.rules.specs.Links.{shared}
-use Rattle.network.specs.Graphs.{size-of, links-of}
+use Rattle.network.specs.Graphs.{members-of, links-of}
 use Rattle.network.proofs.Rows.{count-shared, unknown-shared}
 use Rattle.network.proofs.graph.Graph.shared.Needs as need
 
@@ -14,5 +14,5 @@ returns c =
     (c .intersection .result .word) (c .intersection-2 .result .word) (c .neighbours .ensures) (c .neighbours-2 .ensures) (c .intersection .ensures) (c .intersection-2 .ensures) in
     record {
       value = value;
-      unknown = λ out. value ∙ unknown-shared (size-of graph) (links-of graph) (c .args .a) (c .args .b) S (graph .«only_members») out;
+      unknown = λ out. value ∙ unknown-shared (members-of graph) (links-of graph) (c .args .a) (c .args .b) S (graph .«only_members») out;
     }
