@@ -1,19 +1,26 @@
+use groups::standing::check_group;
 use matrix::calls::MatrixNetwork;
 use matrix::matrix::Matrix;
+use models::any_model::AnyModel;
+use models::any_model::AnyModelModel;
+use models::edge_triangle::EdgeTriangle;
+use models::hereditary::Hereditary;
 use models::plain::Plain;
-use models::plain::PlainModel;
-use models::standing::check_group;
+use models::robust::Robust;
+use models::vertex_triangle::VertexTriangle;
 use network::graph::Graph;
 use network::network::Network;
 use sets::member_set::MemberSet;
 use sets::members::MembersIterator;
 use std::test::*;
+use vocabulary::model_kind::ModelKind;
 use vocabulary::refusal::Refusal;
 use vocabulary::refusal::RefusalDebug;
 use vocabulary::refusal::RefusalPartialEq;
 use vocabulary::standing::Standing;
 use vocabulary::standing::StandingDebug;
 use vocabulary::standing::StandingPartialEq;
+use worked::example::Example;
 
 fn set_of(numbers: &[u32]) -> MemberSet {
     let mut set = MemberSet::empty();
@@ -64,28 +71,95 @@ fn a_full_matrix_holds_every_link() -> Result<(), Fail> {
     check_eq(Graph::of(&net).shared(1, 64, MemberSet::up_to(9)), 8)
 }
 
+// How the members named stand in the example under the model.
+fn standing_in(
+    example: Example,
+    kind: ModelKind,
+    t: u32,
+    numbers: &[u32],
+) -> Result<Standing, Refusal> {
+    let mut net = Matrix::new(example.members())?;
+    for (a, b) in example.links() {
+        net.link(*a, *b)?;
+    }
+    let model = AnyModel::new(kind, t)?;
+    Ok(check_group(&model, &Graph::of(&net), set_of(numbers)))
+}
+
 #[test]
-fn the_ends_of_a_path_of_three_are_apart() -> Result<(), Fail> {
-    let mut net = Matrix::new(3)?;
-    net.link(1, 2)?;
-    net.link(3, 2)?;
-    let graph = Graph::of(&net);
-    let plain = Plain::new(0)?;
+fn the_small_networks_stand_as_known() -> Result<(), Fail> {
+    let six = [1, 2, 3, 4, 5, 6];
+    let star = Example::Star;
     check_eq(
-        check_group(&plain, &graph, set_of(&[1, 3])),
-        Standing::Apart(1, 3),
-    )?;
-    check_eq(
-        check_group(&plain, &graph, set_of(&[1, 2, 3])),
+        standing_in(star, ModelKind::Plain, 0, &[1, 2, 3, 4, 5])?,
         Standing::Group,
     )?;
     check_eq(
-        check_group(&plain, &graph, set_of(&[1, 4])),
+        standing_in(star, ModelKind::Plain, 0, &[2, 3])?,
+        Standing::Apart(2, 3),
+    )?;
+    check_eq(
+        standing_in(star, ModelKind::VertexTriangle, 0, &[1, 2])?,
+        Standing::Loose(1),
+    )?;
+    let prism = Example::Prism;
+    check_eq(
+        standing_in(prism, ModelKind::VertexTriangle, 0, &six)?,
+        Standing::Group,
+    )?;
+    check_eq(
+        standing_in(prism, ModelKind::EdgeTriangle, 0, &six)?,
+        Standing::Apart(1, 4),
+    )?;
+    check_eq(
+        standing_in(prism, ModelKind::EdgeTriangle, 0, &[6, 5, 4])?,
+        Standing::Group,
+    )?;
+    let rows = Example::TwoRows;
+    check_eq(
+        standing_in(rows, ModelKind::Hereditary, 2, &six)?,
+        Standing::Group,
+    )?;
+    check_eq(
+        standing_in(rows, ModelKind::Hereditary, 3, &six)?,
+        Standing::Apart(1, 2),
+    )?;
+    check_eq(
+        standing_in(rows, ModelKind::Robust, 1, &six)?,
+        Standing::Group,
+    )?;
+    check_eq(
+        standing_in(rows, ModelKind::Robust, 2, &six)?,
+        Standing::Apart(1, 4),
+    )?;
+    check_eq(
+        standing_in(rows, ModelKind::Robust, 2, &[5])?,
+        Standing::Group,
+    )?;
+    let path = Example::Path;
+    check_eq(
+        standing_in(path, ModelKind::Plain, 0, &[1, 3])?,
+        Standing::Apart(1, 3),
+    )?;
+    check_eq(
+        standing_in(path, ModelKind::Plain, 0, &[1, 4])?,
         Standing::Unknown(4),
     )?;
     check_eq(
-        check_group(&plain, &graph, MemberSet::empty()),
+        standing_in(path, ModelKind::Plain, 0, &[])?,
         Standing::Empty,
-    )?;
-    check(Plain::new(1).is_err()).note("plain takes 0 only")
+    )
+}
+
+#[test]
+fn a_parameter_out_of_range_makes_no_model() -> Result<(), Fail> {
+    check(Plain::new(1).is_err())?;
+    check(Robust::new(0).is_err())?;
+    check(Robust::new(64).is_ok())?;
+    check(Robust::new(65).is_err())?;
+    check(Hereditary::new(0).is_ok())?;
+    check(Hereditary::new(63).is_ok())?;
+    check(Hereditary::new(64).is_err())?;
+    check(VertexTriangle::new(1).is_err())?;
+    check(EdgeTriangle::new(1).is_err())
 }

@@ -1,5 +1,5 @@
 -- A call that was taken, as the command that asked for it. Assumes nothing.
-use mathlib.Core.Path.{_≡_, refl, sym, subst}
+use mathlib.Core.Path.{_≡_, refl, sym, ap, _∙_, subst}
 use mathlib.Core.List.{List}
 use Prim.Native.Nat.{ℕ}
 use lib.ListN.{take}
@@ -7,43 +7,49 @@ use Rattle.std.specs.declared.option.Option.{Option}
 use Rattle.std.specs.declared.option.Option.the-variants.{Some, None}
 use Rattle.vocabulary.specs.declared.refusal.Refusal.{Refusal}
 use Rattle.vocabulary.specs.declared.standing.Standing.{Standing}
-use Rattle.rules.specs.Links.{no-links, linking}
-use Rattle.rules.specs.Refusals.{making-refusal, link-refusal}
-use Rattle.rules.specs.Sheets.{sheet-refusal}
-use Rattle.rules.specs.Models.{plain}
+use Rattle.vocabulary.specs.declared.model_kind.ModelKind.{ModelKind}
+use Rattle.rules.specs.Links.{linking}
+use Rattle.rules.specs.Refusals.{link-refusal}
+use Rattle.rules.specs.Sheets.{Named, sheet-refusal}
 use Rattle.rules.specs.Standings.{Stands-only}
-use Rattle.models.specs.Sheets.{Named}
 use Rattle.matrix.specs.Matrices.{members-of, links-of}
-use Rattle.matrix.specs.declared.matrix.Matrix.{Matrix}
+use Rattle.models.specs.AnyModels.{meaning-of}
 use Rattle.command.specs.Reading.{says}
 use Rattle.command.specs.declared.Command.{Command}
 use Rattle.command.specs.declared.Command.the-variants.{Network, Link}
 use Rattle.command.specs.declared.sheet.Sheet.{Sheet}
+use Rattle.check_sheet.specs.declared.setup.Setup.{Setup}
 use Rattle.check_sheet.specs.declared.reply.Reply.{Reply}
 use Rattle.check_sheet.specs.declared.reply.Reply.the-variants.{Done, Judged}
-use Rattle.check_sheet.specs.Answers.{Edited, Judged-sheet, Answered}
+use Rattle.check_sheet.specs.Setups.{Setup-is, setup-refusal, Set-up}
+use Rattle.check_sheet.specs.Answers.{Changed, Judged-sheet, Answered}
 
-module _ (before : Option Matrix) (command : Command) where
-  -- the network and the command as they were found
-  found : (net : Option Matrix) (c : Command) (r : Reply) (after : Option Matrix) → before ≡ net → command ≡ c → Answered net (says c) r after → Answered before (says command) r after
-  found net c r after e d h =
-      subst (λ (b : Option Matrix). Answered b (says command) r after) (sym e) (subst (λ (x : Command). Answered net (says x) r after) (sym d) h)
+module _ (before : Option Setup) (command : Command) where
+  -- network, model and command as they were found
+  found : (s : Option Setup) (c : Command) (r : Reply) (after : Option Setup) → before ≡ s → command ≡ c → Answered s (says c) r after → Answered before (says command) r after
+  found s c r after e d h =
+      subst (λ (b : Option Setup). Answered b (says command) r after) (sym e) (subst (λ (x : Command). Answered s (says x) r after) (sym d) h)
 
-  pub opened : (n : ℕ) (net : Matrix) → before ≡ None → command ≡ Network n → making-refusal n ≡ None → members-of net ≡ n → links-of net ≡ no-links
-      → Answered before (says command) Done (Some net)
-  opened n net e d free m l = found None (Network n) Done (Some net) e d (subst (λ (o : Option Refusal). Edited o n no-links None Done (Some net)) (sym free) (refl, (m, l)))
+  taken : (o : Option Refusal) (P : Setup → Type 0) (s : Setup) → o ≡ None → P s → Changed o P before Done (Some s)
+  taken o P s free p = subst (λ (x : Option Refusal). Changed x P before Done (Some s)) (sym free) (refl, p)
 
-  pub linked : (net after : Matrix) (a b : ℕ) → before ≡ Some net → command ≡ Link a b → link-refusal (members-of net) 2016 (links-of net) a b ≡ None → members-of after ≡ members-of net
-      → links-of after ≡ linking a b (links-of net) → Answered before (says command) Done (Some after)
-  linked net after a b e d free m l =
-      found (Some net) (Link a b) Done (Some after) e d
-      (subst (λ (o : Option Refusal). Edited o (members-of net) (linking a b (links-of net)) (Some net) Done (Some after)) (sym free) (refl, (m, l)))
+  pub opened : (n : ℕ) (k : ModelKind) (t : ℕ) (s : Setup) → before ≡ None → command ≡ Network n k t → setup-refusal n k t ≡ None → Set-up n k t s → Answered before (says command) Done (Some s)
+  opened n k t s e d free made =
+      found None (Network n k t) Done (Some s) e d (subst (λ (b : Option Setup). Changed (setup-refusal n k t) (Set-up n k t) b Done (Some s)) e (taken (setup-refusal n k t) (Set-up n k t) s free made))
 
-  pub judged : (net : Matrix) (sheet : Sheet) (numbers : List ℕ) (S : ℕ) (standing : Standing) → before ≡ Some net → command ≡ Command.Sheet sheet → numbers ≡ take (sheet .len) (sheet .bytes)
-      → sheet-refusal (members-of net) numbers ≡ None → Named numbers S → Stands-only (members-of net) (links-of net) plain S standing → Answered before (says command) (Judged standing) before
-  judged net sheet numbers S standing e d on free named stands =
-      found (Some net) (Command.Sheet sheet) (Judged standing) before e d (
-        subst (λ (xs : List ℕ). Judged-sheet (sheet-refusal (members-of net) xs) net xs (Judged standing)) on
-            (subst (λ (o : Option Refusal). Judged-sheet o net numbers (Judged standing)) (sym free) (S, (standing, named, stands, refl))),
+  pub linked : (s after : Setup) (a b : ℕ) → before ≡ Some s → command ≡ Link a b → link-refusal (members-of (s .net)) 2016 (links-of (s .net)) a b ≡ None
+      → Setup-is (members-of (s .net)) (linking a b (links-of (s .net))) (meaning-of (s .model)) after → Answered before (says command) Done (Some after)
+  linked s after a b e d free is =
+      let P = Setup-is (members-of (s .net)) (linking a b (links-of (s .net))) (meaning-of (s .model)) in
+      let o = link-refusal (members-of (s .net)) 2016 (links-of (s .net)) a b in
+      found (Some s) (Link a b) Done (Some after) e d (subst (λ (x : Option Setup). Changed o P x Done (Some after)) e (taken o P after free is))
+
+  pub judged : (s : Setup) (sheet : Sheet) (numbers : List ℕ) (S : ℕ) (standing : Standing) → before ≡ Some s → command ≡ Command.Sheet sheet → numbers ≡ take (sheet .len) (sheet .bytes)
+      → sheet-refusal (members-of (s .net)) numbers ≡ None → Named numbers S → Stands-only (members-of (s .net)) (links-of (s .net)) (meaning-of (s .model)) S standing
+      → Answered before (says command) (Judged standing) before
+  judged s sheet numbers S standing e d on free named stands =
+      found (Some s) (Command.Sheet sheet) (Judged standing) before e d (
+        subst (λ (xs : List ℕ). Judged-sheet (sheet-refusal (members-of (s .net)) xs) s xs (Judged standing)) on
+            (subst (λ (o : Option Refusal). Judged-sheet o s numbers (Judged standing)) (sym free) (S, (standing, named, stands, refl))),
         e,
       )

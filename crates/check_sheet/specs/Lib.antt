@@ -1,3 +1,4 @@
+pub mod Setups
 pub mod Answers
 pub mod Summaries
 pub mod Texts

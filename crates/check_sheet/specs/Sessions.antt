@@ -10,21 +10,21 @@ use Rattle.check_sheet.specs.declared.session.Session.{Session}
 use Rattle.check_sheet.specs.Answers.{Replied}
 use Rattle.check_sheet.specs.Summaries.{nothing-yet, noted}
 
--- no network, nothing of a line, no reply
+-- no network or model, nothing of a line, no reply
 pub record Fresh (s : Session) : Type 0 where
-  pub net : s .net ≡ None
+  pub setup : s .setup ≡ None
   pub line : Gathered (s .line) []
   pub summary : s .summary ≡ nothing-yet
 
 -- the line was replied to as its bytes ask, the reply was counted, and nothing of the next line has come
 pub record Line-answered (before : Session) (bytes : List ℕ) (r : Reply) (after : Session) : Type 0 where
-  pub replied : Replied (before .net) bytes r (after .net)
+  pub replied : Replied (before .setup) bytes r (after .setup)
   pub line : Gathered (after .line) []
   pub summary : after .summary ≡ noted r (before .summary)
 
--- the network and the replies so far are as before
+-- network, model and replies so far are as before
 pub record Kept (before after : Session) : Type 0 where
-  pub net : after .net ≡ before .net
+  pub setup : after .setup ≡ before .setup
   pub summary : after .summary ≡ before .summary
 
 -- byte 10 ends the line; every other byte is one more of it

@@ -1,7 +1,8 @@
-// Reads a network and sheets from standard input, and says of each sheet how it stands by the plain rule.
+// Reads a network, a model and sheets from standard input, and says of each sheet how it stands.
 mod answer;
 mod reply;
 mod session;
+mod setup;
 mod summary;
 
 use reply::ReplyDisplay;

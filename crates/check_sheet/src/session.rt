@@ -6,15 +6,15 @@ ghost use Rattle.check_sheet.specs.Answers.{Replied};
 ghost use Rattle.check_sheet.specs.Sessions.{Fresh, Line-answered, Took, Ended};
 use crate::answer::answer;
 use crate::reply::Reply;
+use crate::setup::Setup;
 use crate::summary::Summary;
 use command::LineBuffer;
 use command::parse;
-use matrix::matrix::Matrix;
 
-// What stands between two bytes of the input: the network so far, the line so far and the replies so far.
+// What stands between two bytes of the input: the network with its model, the line so far and the replies so far.
 #[derive(Drop)]
 pub struct Session {
-    net: Option<Matrix>,
+    setup: Option<Setup>,
     line: LineBuffer,
     summary: Summary,
 }
@@ -24,7 +24,7 @@ impl Session {
         ensures { λ r. ⌜ Fresh r ⌝ }
     {
         Session {
-            net: None,
+            setup: None,
             line: LineBuffer::new(),
             summary: Summary::new(),
         }
@@ -61,7 +61,7 @@ impl Session {
     fn answer_line(&mut self) -> Reply
         ensures { λ r. ⌜ ((bytes : List ℕ) → Gathered (now (self .entry) .line) bytes → Line-answered (now (self .entry)) bytes r (now (self .exit))) ⌝ }
     {
-        let reply = reply_to(&mut self.net, &self.line);
+        let reply = reply_to(&mut self.setup, &self.line);
         self.line.clear();
         self.summary.note(reply);
         reply
@@ -69,8 +69,8 @@ impl Session {
 }
 
 // What one line does to the network, and what is replied.
-fn reply_to(net: &mut Option<Matrix>, line: &LineBuffer) -> Reply
-    ensures { λ r. ⌜ ((bytes : List ℕ) → Gathered (now (line .entry)) bytes → Replied (now (net .entry)) bytes r (now (net .exit))) ⌝ }
+fn reply_to(setup: &mut Option<Setup>, line: &LineBuffer) -> Reply
+    ensures { λ r. ⌜ ((bytes : List ℕ) → Gathered (now (line .entry)) bytes → Replied (now (setup .entry)) bytes r (now (setup .exit))) ⌝ }
 {
     let Some(text) = line.text() else {
         return Reply::Unreadable;
@@ -78,5 +78,5 @@ fn reply_to(net: &mut Option<Matrix>, line: &LineBuffer) -> Reply
     let Some(command) = parse(text) else {
         return Reply::Unreadable;
     };
-    answer(net, command)
+    answer(setup, command)
 }

@@ -1,13 +1,15 @@
--- What a line with a given letter says, by the numbers behind the letter.
+-- What a line with a given letter says, by the fields behind the letter.
 use mathlib.Core.Path.{_≡_, refl, ap, subst, _∙_}
 use mathlib.Core.List.{List, [], _∷_, _++_}
 use Prim.Native.Nat.{ℕ, _≤_}
 use native.Mathlib.Omega.{arith}
 use lib.ListN.{length}
 use Rattle.std.proofs.shelf.Lists.{append-nil, nil-from-length}
-use Rattle.command.specs.Grammar.{Spelled, network, link, sheet, Fields, Form}
-use Rattle.command.specs.Scan.{Field}
+use Rattle.vocabulary.specs.declared.model_kind.ModelKind.{ModelKind}
+use Rattle.command.specs.Grammar.{Spelled, network, link, sheet, model-letter, Fields, Form}
+use Rattle.command.specs.Scan.{Field, Model-field}
 use Rattle.command.proofs.Numbers.{same-head, same-tail, one-field, field-last, field-spaced, space-stops}
+use Rattle.command.proofs.Models.{one-model}
 use Rattle.command.proofs.Sheets.{Continued, next, fields-none}
 
 -- the bytes say the command c and no other
@@ -16,40 +18,94 @@ Says c line = Form c line × ((d : Spelled) → Form d line → d ≡ c)
 
 -- the letters that the grammar has
 letter : Spelled → ℕ
-letter (network n) = 78
+letter (network n m t) = 78
 letter (link a b) = 76
 letter (sheet xs) = 75
 
 -- a line begins with the letter of what it says
 letter-first : (d : Spelled) (b : ℕ) (line : List ℕ) → Form d (b ∷ line) → b ≡ letter d
 unfolding letter
-letter-first (network n) b line p = same-head b 78 line _ (p .1 .1)
+letter-first (network n m t) b line p = same-head b 78 line _ (p .1 .1 .2)
 letter-first (link x y) b line p = same-head b 76 line _ (p .1 .1 .2)
 letter-first (sheet xs) b line p = same-head b 75 line _ (p .1 .0)
 
--- `N` and one number
+-- `N`, a number, a model and the model's parameter
 record Numbered (d : Spelled) (line : List ℕ) : Type 0 where
   pub n : ℕ
-  pub said : d ≡ network n
-  pub field : Field line n []
+  pub m : ModelKind
+  pub t : ℕ
+  pub rest : List ℕ
+  pub more : List ℕ
+  pub said : d ≡ network n m t
+  pub size : Field line n rest
+  pub model : Model-field rest m more
+  pub parameter : Field more t []
 
 network-read : (d : Spelled) (line : List ℕ) → Form d (78 ∷ line) → Numbered d line
 unfolding letter
-network-read (network n) line p =
-    record { n = n; said = refl; field = field-last line (p .0) n (p .1 .0) (same-tail 78 78 line _ (p .1 .1)) }
+network-read (network n m t) line p =
+    let es = p .1 .0 in
+    let named = model-letter m ∷ (32 ∷ es) in
+    record {
+      n = n;
+      m = m;
+      t = t;
+      rest = 32 ∷ named;
+      more = 32 ∷ es;
+      said = refl;
+      size = field-spaced line (p .0) (32 ∷ named) n (p .1 .1 .0) (space-stops named) (same-tail 78 78 line _ (p .1 .1 .2));
+      model = refl;
+      parameter = field-last (32 ∷ es) es t (p .1 .1 .1) refl;
+    }
 network-read (link a b) line p = absurd (omega (arith, letter-first (link a b) 78 line p))
 network-read (sheet xs) line p = absurd (omega (arith, letter-first (sheet xs) 78 line p))
 
-pub network-made : (n : ℕ) (line : List ℕ) → Field line n [] → Says (network n) (78 ∷ line)
-network-made n line p = (
-  (p .digits, (p .numeral, ap (λ xs. 78 ∷ xs) (p .whole ∙ ap (λ xs. 32 ∷ xs) (append-nil (p .digits))))),
-  λ d q.
-      let r = network-read d line q in
-      r .said ∙ ap network (one-field line (r .n) n [] [] (r .field) p .0),
-)
+-- what follows a number that was read
+model-next : (d : Spelled) (n : ℕ) (line rest : List ℕ) → Field line n rest → (r : Numbered d line)
+    → (r .n ≡ n) × Model-field rest (r .m) (r .more)
+model-next d n line rest p r =
+    let one = one-field line (r .n) n (r .rest) rest (r .size) p in
+    (one .0, subst (λ (xs : List ℕ). Model-field xs (r .m) (r .more)) (one .1) (r .model))
 
-pub network-refused : (line : List ℕ) → ((n : ℕ) → Field line n [] → ⊥) → (d : Spelled) → Form d (78 ∷ line) → ⊥
-network-refused line none d q = let r = network-read d line q in none (r .n) (r .field)
+-- what follows a model that was read
+parameter-next : (d : Spelled) (n : ℕ) (m : ModelKind) (line rest more : List ℕ) → Field line n rest → Model-field rest m more
+    → (r : Numbered d line) → (r .m ≡ m) × Field more (r .t) []
+parameter-next d n m line rest more p q r =
+    let one = one-model rest (r .m) m (r .more) more (model-next d n line rest p r .1) q in
+    (one .0, subst (λ (xs : List ℕ). Field xs (r .t) []) (one .1) (r .parameter))
+
+pub network-made : (n : ℕ) (m : ModelKind) (t : ℕ) (line rest more : List ℕ) → Field line n rest → Model-field rest m more
+    → Field more t [] → Says (network n m t) (78 ∷ line)
+network-made n m t line rest more p q s =
+    let end : more ≡ 32 ∷ s .digits = s .whole ∙ ap (λ xs. 32 ∷ xs) (append-nil (s .digits)) in
+    let tail : rest ≡ 32 ∷ (model-letter m ∷ (32 ∷ s .digits)) = q ∙ ap (λ xs. 32 ∷ (model-letter m ∷ xs)) end in (
+      (
+        p .digits,
+        (s .digits, (p .numeral, s .numeral, ap (λ xs. 78 ∷ xs) (p .whole ∙ ap (λ xs. 32 ∷ (p .digits ++ xs)) tail))),
+      ),
+      λ d f.
+          let r = network-read d line f in
+          let size = model-next d n line rest p r in
+          let last = parameter-next d n m line rest more p q r in
+          let same = one-field more (r .t) t [] [] (last .1) s in
+          r .said ∙ ap (λ x. network x (r .m) (r .t)) (size .0) ∙ ap (λ x. network n x (r .t)) (last .0) ∙ ap (λ x. network n m x) (same .0),
+    )
+
+-- the first number is missing
+pub network-none : (line : List ℕ) → ((n : ℕ) (rest : List ℕ) → Field line n rest → ⊥) → (d : Spelled) → Form d (78 ∷ line) → ⊥
+network-none line none d f = let r = network-read d line f in none (r .n) (r .rest) (r .size)
+
+-- the first number is not followed by a model
+pub network-unnamed : (n : ℕ) (line rest : List ℕ) → Field line n rest
+    → ((m : ModelKind) (more : List ℕ) → Model-field rest m more → ⊥) → (d : Spelled) → Form d (78 ∷ line) → ⊥
+network-unnamed n line rest p none d f =
+    let r = network-read d line f in none (r .m) (r .more) (model-next d n line rest p r .1)
+
+-- the model is not followed by a last number
+pub network-refused : (n : ℕ) (m : ModelKind) (line rest more : List ℕ) → Field line n rest → Model-field rest m more
+    → ((t : ℕ) → Field more t [] → ⊥) → (d : Spelled) → Form d (78 ∷ line) → ⊥
+network-refused n m line rest more p q none d f =
+    let r = network-read d line f in none (r .t) (parameter-next d n m line rest more p q r .1)
 
 -- `L` and two numbers
 record Linked (d : Spelled) (line : List ℕ) : Type 0 where
@@ -62,7 +118,7 @@ record Linked (d : Spelled) (line : List ℕ) : Type 0 where
 
 link-read : (d : Spelled) (line : List ℕ) → Form d (76 ∷ line) → Linked d line
 unfolding letter
-link-read (network n) line p = absurd (omega (arith, letter-first (network n) 76 line p))
+link-read (network n m t) line p = absurd (omega (arith, letter-first (network n m t) 76 line p))
 link-read (link x y) line p =
     let es = p .1 .0 in
     record {
@@ -108,7 +164,7 @@ record Marked (d : Spelled) (line : List ℕ) : Type 0 where
 
 sheet-read : (d : Spelled) (line : List ℕ) → Form d (75 ∷ line) → Marked d line
 unfolding letter
-sheet-read (network n) line p = absurd (omega (arith, letter-first (network n) 75 line p))
+sheet-read (network n m t) line p = absurd (omega (arith, letter-first (network n m t) 75 line p))
 sheet-read (link a b) line p = absurd (omega (arith, letter-first (link a b) 75 line p))
 sheet-read (sheet ys) line p =
     let same = same-tail 75 75 line (p .0) (p .1 .0) in

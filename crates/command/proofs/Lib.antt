@@ -1,3 +1,4 @@
 pub mod Numbers
+pub mod Models
 pub mod Forms
 pub mod Sheets

@@ -11,7 +11,7 @@ use Rattle.command.specs.declared.Command.the-variants.{Network, Link, Sheet}
 
 -- the command as it is said
 abbrev pub says : Command → Spelled
-says (Network n) = network n
+says (Network n m t) = network n m t
 says (Link a b) = link a b
 says (Sheet s) = sheet (take (s .len) (s .bytes))
 

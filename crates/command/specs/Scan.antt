@@ -1,9 +1,10 @@
--- One number on a line, and what follows it.
+-- One field on a line, a number or a model, and what follows it.
 use mathlib.Core.Path.{_≡_}
 use mathlib.Core.List.{List, [], _∷_, _++_}
 use Prim.Native.Nat.{ℕ, _<_, _≤_}
 use lib.ListN.{length, getD}
-use Rattle.command.specs.Grammar.{Digit, Numeral}
+use Rattle.vocabulary.specs.declared.model_kind.ModelKind.{ModelKind}
+use Rattle.command.specs.Grammar.{Digit, Numeral, model-letter}
 
 -- a number has ended: no digit follows
 abbrev pub Stops : List ℕ → Type 0
@@ -22,3 +23,7 @@ pub record Field (line : List ℕ) (x : ℕ) (rest : List ℕ) : Type 0 where
   pub numeral : Numeral digits x
   pub whole : line ≡ 32 ∷ (digits ++ rest)
   pub stops : Stops rest
+
+-- a space, the letter of the model m, and what is left
+abbrev pub Model-field : List ℕ → ModelKind → List ℕ → Type 0
+Model-field line m rest = line ≡ 32 ∷ (model-letter m ∷ rest)

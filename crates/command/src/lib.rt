@@ -2,6 +2,7 @@
 
 mod field;
 mod line_buffer;
+mod model_letter;
 mod sheet;
 
 ghost use Prim.Native.Nat.{_<_};
@@ -11,11 +12,13 @@ ghost use Rattle.command.specs.Grammar.{Form};
 ghost use Rattle.command.specs.Reading.{Reads, Spells};
 use field::field;
 pub use line_buffer::LineBuffer;
+use model_letter::model_field;
 pub use sheet::Sheet;
+use vocabulary::model_kind::ModelKind;
 
 #[derive(Clone, Copy)]
 pub enum Command {
-    Network(u32),
+    Network(u32, ModelKind, u32),
     Link(u32, u32),
     Sheet(Sheet),
 }
@@ -23,13 +26,15 @@ pub enum Command {
 // No line is longer; so a sheet has at most 499 numbers, and its places suffice.
 pub(crate) const LONGEST: usize = 1000;
 
-// What `N` is followed by: one number.
+// What `N` is followed by: a number, a model and the model's parameter.
 fn network_of(fields: &[u8]) -> Option<Command>
     ensures { λ r. ⌜ Spells (λ c. Form c (78 ∷ now (fields .entry))) r ⌝ }
 {
     let (n, rest) = field(fields)?;
+    let (model, rest) = model_field(rest)?;
+    let (t, rest) = field(rest)?;
     if rest.is_empty() {
-        Some(Command::Network(n))
+        Some(Command::Network(n, model, t))
     } else {
         None
     }

@@ -1,3 +1,1 @@
-mod Sweeping
-mod Finding
-mod Sheets
+mod Triangles

@@ -1,5 +1,7 @@
-// Models of groups, and how a set stands under any of them.
-pub mod model;
+// The models of groups.
+pub mod any_model;
+pub mod edge_triangle;
+pub mod hereditary;
 pub mod plain;
-pub mod sheet;
-pub mod standing;
+pub mod robust;
+pub mod vertex_triangle;

@@ -1,5 +1,5 @@
 ghost use Rattle.rules.specs.Models.{plain};
-use crate::model::Model;
+use groups::model::Model;
 use network::graph::Graph;
 use sets::member_set::MemberSet;
 
@@ -18,9 +18,6 @@ pub impl Model for Plain as PlainModel {
     }
 
     fn pair(&self, graph: &Graph, set: MemberSet, a: u32, b: u32) -> bool {
-        if !set.has(a) || !set.has(b) || a == b {
-            return false;
-        }
-        graph.linked(a, b) || graph.shared(a, b, set) >= 1
+        set.has_two(a, b) && (graph.linked(a, b) || graph.shared(a, b, set) >= 1)
     }
 }

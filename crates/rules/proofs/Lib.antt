@@ -6,5 +6,9 @@ pub mod Order
 pub mod Links
 pub mod Refusals
 pub mod Models
+pub mod Ways
 pub mod Published
+pub mod Robust
 pub mod Standings
+pub mod Computing
+pub mod Worked

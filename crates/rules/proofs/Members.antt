@@ -1,21 +1,22 @@
 -- Sets by their members: when they are the same, how large they are, and their smallest member. Assumes nothing.
-use mathlib.Core.Path.{_≡_, refl, sym, ap, _∙_, subst}
+use mathlib.Core.Path.{_≡_, refl, sym, ap, ap₂, _∙_, subst}
 use mathlib.Core.Bool.{Bool, true, false, not, _&&_, _||_}
 use mathlib.Core.Logic.{_⊎_, inl, inr}
-use Prim.Native.Nat.{ℕ, zero, suc, _+_, _-_, _/_, _%_, _^_, _≤_, _<_}
+use Prim.Native.Nat.{ℕ, zero, suc, _+_, _-_, _*_, _/_, _%_, _^_, _≤_, _<_}
 use native.Mathlib.Nat.{mod-lt, div-add-mod', lt-of-lt-of-le}
 use native.Mathlib.Numerals.{add-one}
 use native.Mathlib.Omega.{arith}
 use lib.Dec.{T, eqb, leb, lit<, leb→le, le→leb, eqb→eq}
 use lib.Arith.{lt-one}
 use lib.Pow.{pow-mono}
+use lib.Bits.{bitOr}
 use lib.Count.{trailingZeros}
 use Rattle.std.proofs.shelf.Tests.{cases-lt, cases-eq, eq-eqb}
 use Rattle.std.proofs.shelf.Ways.{tells}
 use Rattle.rules.specs.Sets.{Tells, inside, has, Within, Set-of, Empty-set, Leaves, size, Lowest, Same-members, Size-laws}
 use Rattle.rules.proofs.Tests.{as-true, passes, fails, tells-by, and-left, and-right, and-both}
-use Rattle.rules.proofs.Digits.{has-zero, has-first, has-next, half-lt, has-out, nobody, trailing-below, trailing-at}
-use Rattle.rules.proofs.Tallies.{tally-same, tally-mono, tally-one}
+use Rattle.rules.proofs.Digits.{has-zero, has-or, has-one, has-first, has-next, half-lt, has-out, nobody, trailing-below, trailing-at}
+use Rattle.rules.proofs.Tallies.{tally-same, tally-mono, tally-without}
 
 -- ---- sets with the same members
 
@@ -102,30 +103,31 @@ some-tells S false h some =
     let d : S ≡ 0 → ⊥ = λ e. some (no-members S e) in
     (suc (trailingZeros 64 S), trailing-at 64 S (some-member S d h))
 
+-- there is a set of those that pass a test
+pub gathered : (p : ℕ → Bool) (n : ℕ) → n ≤ 64 → (S : ℕ) × ((a : ℕ) → has S a ≡ (inside n a && p a))
+gathered p zero few = (0, λ a. nobody a ∙ grind (arith, tells))
+gathered p (suc n) few = more (p (suc n)) refl (gathered p n (omega arith))
+  where
+    more : (b : Bool) → p (suc n) ≡ b → (S : ℕ) × ((a : ℕ) → has S a ≡ (inside n a && p a)) → (S : ℕ) × ((a : ℕ) → has S a ≡ (inside (suc n) a && p a))
+    more true e (S, S-is) = (bitOr S ((1 * 2 ^ (suc n - 1)) % 2 ^ 64), λ a. has-or S ((1 * 2 ^ (suc n - 1)) % 2 ^ 64) a ∙ ap₂ _||_ (S-is a) (has-one (suc n) a (omega arith) few) ∙ with-it a)
+      where
+        with-it : (a : ℕ) → ((inside n a && p a) || eqb a (suc n)) ≡ (inside (suc n) a && p a)
+        with-it a = elim (cases-eq a (suc n)) [ inl d ↦ let q : p a ≡ true = ap p d ∙ e in grind (arith, tells) | inr d ↦ grind (arith, tells) ]
+    more false e (S, S-is) = (S, λ a. S-is a ∙ without-it a)
+      where
+        without-it : (a : ℕ) → (inside n a && p a) ≡ (inside (suc n) a && p a)
+        without-it a = elim (cases-eq a (suc n)) [ inl d ↦ let q : p a ≡ false = ap p d ∙ e in grind (arith, tells) | inr d ↦ grind (arith, tells) ]
+
 -- ---- sizes
 
 pub size-laws : Size-laws
 size-laws = record {
   grows = λ S R w. tally-mono (has S) (has R) 64 (λ k l. w (suc k));
-  falls = λ S v R i t leaves. sym (more S v R (inside-from 64 v i) (inside-to 64 v i) t leaves);
+  falls = λ S v R i t leaves.
+      add-one (size R)
+      ∙ ap suc (tally-same (has R) (λ a. has S a && not (eqb a v)) 64 (λ k l. leaves (suc k)))
+      ∙ sym (tally-without (has S) v 64 (inside-from 64 v i) (inside-to 64 v i) t);
 }
-  where
-    more : (S v R : ℕ) → 1 ≤ v → v ≤ 64 → T (has S v) → Leaves S v R → size S ≡ size R + 1
-    more S v R l h t leaves =
-        tally-same (has S) (λ a. eqb a v || has R a) 64 (λ k g. at (suc k)) ∙ tally-one (has R) v 64 l h (out v (leaves v)) ∙ sym (add-one (size R))
-      where
-        out : (x : ℕ) → has R x ≡ (has S x && not (eqb x x)) → has R x ≡ false
-        out x e = e ∙ ap (λ (b : Bool). has S x && not b) (eq-eqb x x refl) ∙ no-more (has S x)
-          where
-            no-more : (b : Bool) → (b && false) ≡ false
-            no-more true = refl
-            no-more false = refl
-
-        at : (a : ℕ) → has S a ≡ (eqb a v || has R a)
-        at a = elim (cases-eq a v) [
-          | inl e ↦ let s : has S a ≡ true = ap (has S) e ∙ as-true (has S v) t in s ∙ grind (arith, tells)
-          | inr d ↦ let r = leaves a in grind (arith, tells)
-        ]
 
 -- ---- the smallest member
 

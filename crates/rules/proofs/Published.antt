@@ -1,182 +1,214 @@
 -- The groups of the models are the published ones. Assumes nothing.
 use mathlib.Core.Path.{_≡_, refl, sym, ap, _∙_, subst}
-use mathlib.Core.Bool.{Bool, true, false, cond, _&&_, _||_}
+use mathlib.Core.Bool.{Bool, true, false, not, _&&_, _||_}
 use mathlib.Core.Logic.{_⊎_, inl, inr}
-use mathlib.Core.List.{List, [], _∷_}
-use Prim.Native.Nat.{ℕ, zero, suc, _+_, _≤_, zero-le}
-use native.Mathlib.Nat.{le-refl, le-suc}
+use Prim.Native.Nat.{ℕ, suc, _+_, _≤_, _<_}
+use native.Mathlib.Nat.{le-refl}
 use native.Mathlib.Omega.{arith}
-use lib.Dec.{T, eqb, leb, eqb→eq, leb→le, le→leb}
-use lib.ListN.{length}
-use Rattle.std.specs.declared.option.Option.the-variants.{Some}
-use Rattle.std.proofs.shelf.Tests.{cases-eq, eq-eqb}
-use Rattle.rules.specs.Sets.{has, inside, Set-of, tally}
+use lib.Dec.{T, leb, leb→le, le→leb, T-not, not-T}
+use Rattle.std.proofs.shelf.Tests.{cases-lt}
+use Rattle.rules.specs.Sets.{has, inside, two-of, Within, Set-of, Remains, tally, size}
 use Rattle.rules.specs.Links.{Links, Lawful-links, shared}
-use Rattle.rules.specs.Sheets.{on}
-use Rattle.rules.specs.Models.{Group, two-of, plain}
-use Rattle.rules.specs.Paths.{Path-in, path-length, Distance-up-to}
-use Rattle.rules.specs.Published.{Two-club, Agrees}
-use Rattle.rules.proofs.Tests.{as-true, fails, passes, and-left, and-right, and-both, or-left, or-right, or-cases}
-use Rattle.rules.proofs.Members.{inside-from, inside-to, inside-of}
+use Rattle.rules.specs.Models.{All-pair, Group, in-triangle, plain, hereditary, vertex-triangle, edge-triangle}
+use Rattle.rules.specs.Published.{Two-club, Hereditary-club, Triangle, Vertex-triangle-club, Edge-triangle-club, Agrees}
+use Rattle.rules.proofs.Tests.{fails, and-left, and-right, and-both, or-left, or-right, or-cases}
+use Rattle.rules.proofs.Tallies.{tally-same, one-passes, more-pass, some-passes}
+use Rattle.rules.proofs.Members.{inside-from, inside-to, inside-of, gathered}
 use Rattle.rules.proofs.Models.{two-from}
+use Rattle.rules.proofs.Ways.{Way, straight, by, Leads, club-from-ways, way-in-club}
 
--- ---- some number passes a test exactly when at least one does
+-- k is a member of S that a and b share
+abbrev pub common : Links → ℕ → ℕ → ℕ → ℕ → Bool
+common l S a b k = has S k && (l a k && l b k)
 
-pub some-passes : (p : ℕ → Bool) (n : ℕ) → 1 ≤ tally p n → (k : ℕ) × T (p k)
-unfolding tally
-some-passes p zero h = absurd (omega arith)
-some-passes p (suc n) h = go (p (suc n)) refl h (λ g. some-passes p n g)
-  where
-    go : (b : Bool) → p (suc n) ≡ b → 1 ≤ cond b 1 0 + tally p n → (1 ≤ tally p n → (k : ℕ) × T (p k)) → (k : ℕ) × T (p k)
-    go true e h rest = (suc n, passes e)
-    go false e h rest = rest (omega arith)
+module _ (n : ℕ) (l : Links) (N : Lawful-links n l) (S : ℕ) (small : Set-of n S) where
+  -- ---- a way by a member is one that the two share
 
-pub one-passes : (p : ℕ → Bool) (n k : ℕ) → T (inside n k) → T (p k) → 1 ≤ tally p n
-unfolding tally
-one-passes p zero k i t = let h = inside-from 0 k i in let g = inside-to 0 k i in absurd (omega arith)
-one-passes p (suc n) k i t = elim (cases-eq k (suc n)) [
-  | inl e ↦ let z : _≡_ {A = ℕ} (cond (p (suc n)) 1 0) 1 = ap (λ (b : Bool). cond {A = ℕ} b 1 0) (ap p (sym e) ∙ as-true (p k) t) in omega (arith, z)
-  | inr d ↦
-      let h = inside-from (suc n) k i in
-      let g = inside-to (suc n) k i in
-      let rest = one-passes p n k (inside-of n k h (omega arith)) t in
-      omega arith
-]
+  pub way-by : (a b k : ℕ) → T (common l S a b k) → Leads l S a b (by k)
+  way-by a b k t =
+      let r = and-right (has S k) (l a k && l b k) t in
+      (and-left (has S k) (l a k && l b k) t, and-left (l a k) (l b k) r, subst T (N .both-ways b k) (and-right (l a k) (l b k) r))
 
--- ---- members on short lists
+  pub by-common : (a b k : ℕ) → Leads l S a b (by k) → T (common l S a b k)
+  by-common a b k (i, s, t) = and-both (has S k) (l a k && l b k) i (and-both (l a k) (l b k) s (subst T (N .both-ways k b) t))
 
-on-cons : (x y : ℕ) (p : List ℕ) → T (on (x ∷ p) y) → (y ≡ x) ⊎ T (on p y)
-on-cons x y p t = elim (or-cases (eqb x y) (on p y) t) [ inl e ↦ inl (sym (eqb→eq x y e)) | inr q ↦ inr q ]
+  pub known : (a : ℕ) → T (has S a) → T (inside 64 a)
+  known a i = inside-of 64 a (inside-from n a (small a i)) (omega (arith, inside-to n a (small a i), N .few))
 
-on-first : (x : ℕ) (p : List ℕ) → T (on (x ∷ p) x)
-on-first x p = or-left (eqb x x) (on p x) (passes (eq-eqb x x refl))
+  at-least-one : (p : ℕ → Bool) (k : ℕ) → T (has S k) → T (p k) → T (leb 1 (tally p 64))
+  at-least-one p k i t = le→leb 1 (tally p 64) (one-passes p k 64 (inside-from 64 k (known k i)) (inside-to 64 k (known k i)) t)
 
-on-next : (x y : ℕ) (p : List ℕ) → T (on p y) → T (on (x ∷ p) y)
-on-next x y p t = or-right (eqb x y) (on p y) t
+  one-shared : (a b : ℕ) → T (leb 1 (shared l a b S)) → (k : ℕ) × Leads l S a b (by k)
+  one-shared a b t = let (k, c) = some-passes (common l S a b) 64 (leb→le 1 (shared l a b S) t) in (k, way-by a b k c)
 
-some-same : (x y : ℕ) → Some x ≡ Some y → x ≡ y
-some-same x y e = cc
+  shared-one : (a b k : ℕ) → Leads l S a b (by k) → T (leb 1 (shared l a b S))
+  shared-one a b k w = at-least-one (common l S a b) k (w .0) (by-common a b k w)
 
--- ---- paths of at most two links
+  -- ---- plain: two pair exactly when a way leads from one to the other
 
-module _ (n : ℕ) (l : Links) (N : Lawful-links n l) (S : ℕ) where
-  linked-differ : (x y : ℕ) → T (l x y) → x ≡ y → ⊥
-  linked-differ x y t e = fails (N .not-itself x) (subst (λ (z : ℕ). T (l x z)) (sym e) t)
-
-  -- a alone, a and b, and a, k and b
-  pub stay : (a : ℕ) → T (has S a) → Distance-up-to 2 l S a a
-  stay a i = (
-    a ∷ [],
-    record {
-      inside-set = λ x t. elim (on-cons a x [] t) [ inl e ↦ subst (λ (z : ℕ). T (has S z)) (sym e) i | inr q ↦ absurd q ];
-      differ = ((λ t. t), tt);
-      chained = tt;
-      starts = refl;
-      ends = refl;
-    },
-    zero-le,
-  )
-
-  pub direct : (a b : ℕ) → T (has S a) → T (has S b) → T (l a b) → Distance-up-to 2 l S a b
-  direct a b i j t = (
-    a ∷ (b ∷ []),
-    record {
-      inside-set = λ x q. pick x (on-cons a x (b ∷ []) q);
-      differ = ((λ q. elim (on-cons b a [] q) [ inl e ↦ linked-differ a b t e | inr z ↦ z ]), ((λ q. q), tt));
-      chained = (t, tt);
-      starts = refl;
-      ends = refl;
-    },
-    le-suc 1,
-  )
+  pairs-club : All-pair l plain S → Two-club l S
+  pairs-club pair = club-from-ways n l N S (λ a b i j d. way a b (or-cases (l a b) (leb 1 (shared l a b S)) (and-right (two-of S a b) (l a b || leb 1 (shared l a b S)) (pair a b i j d))))
     where
-      pick : (x : ℕ) → (x ≡ a) ⊎ T (on (b ∷ []) x) → T (has S x)
-      pick x (inl e) = subst (λ (z : ℕ). T (has S z)) (sym e) i
-      pick x (inr q) = elim (on-cons b x [] q) [ inl e ↦ subst (λ (z : ℕ). T (has S z)) (sym e) j | inr z ↦ absurd z ]
+      way : (a b : ℕ) → T (l a b) ⊎ T (leb 1 (shared l a b S)) → (w : Way) × Leads l S a b w
+      way a b (inl t) = (straight, t)
+      way a b (inr t) = let (k, w) = one-shared a b t in (by k, w)
 
-  pub by-way : (a k b : ℕ) → T (has S a) → T (has S k) → T (has S b) → (a ≡ b → ⊥) → T (l a k) → T (l k b) → Distance-up-to 2 l S a b
-  by-way a k b i h j d s t = (
-    a ∷ (k ∷ (b ∷ [])),
-    record {
-      inside-set = λ x q. pick x (on-cons a x (k ∷ (b ∷ [])) q);
-      differ = ((λ q. away (on-cons k a (b ∷ []) q)), ((λ q. elim (on-cons b k [] q) [ inl e ↦ linked-differ k b t e | inr z ↦ z ]), ((λ q. q), tt)));
-      chained = (s, (t, tt));
-      starts = refl;
-      ends = refl;
-    },
-    le-refl 2,
-  )
+  club-pairs : Two-club l S → All-pair l plain S
+  club-pairs c a b i j d = and-both (two-of S a b) (l a b || leb 1 (shared l a b S)) (two-from S a b i j d) (near (way-in-club n l N S c a b i j d))
     where
-      end : (x : ℕ) → T (on (b ∷ []) x) → x ≡ b
-      end x q = elim (on-cons b x [] q) [ inl e ↦ e | inr z ↦ absurd z ]
+      near : (w : Way) × Leads l S a b w → T (l a b || leb 1 (shared l a b S))
+      near (straight, t) = or-left (l a b) (leb 1 (shared l a b S)) t
+      near (by k, w) = or-right (l a b) (leb 1 (shared l a b S)) (shared-one a b k w)
 
-      away : (a ≡ k) ⊎ T (on (b ∷ []) a) → ⊥
-      away (inl e) = linked-differ a k s e
-      away (inr q) = d (end a q)
+  -- ---- vertex triangle: a member fits exactly when it lies in a triangle
 
-      later : (x : ℕ) → (x ≡ k) ⊎ T (on (b ∷ []) x) → T (has S x)
-      later x (inl e) = subst (λ (z : ℕ). T (has S z)) (sym e) h
-      later x (inr q) = subst (λ (z : ℕ). T (has S z)) (sym (end x q)) j
-
-      pick : (x : ℕ) → (x ≡ a) ⊎ T (on (k ∷ (b ∷ [])) x) → T (has S x)
-      pick x (inl e) = subst (λ (z : ℕ). T (has S z)) (sym e) i
-      pick x (inr q) = later x (on-cons k x (b ∷ []) q)
-
-  -- a link, or a member between
-  pub short-way : (a b : ℕ) → (a ≡ b → ⊥) → (p : List ℕ) → Path-in l S a b p → path-length p ≤ 2 → T (l a b) ⊎ ((k : ℕ) × T (has S k) × T (l a k) × T (l k b))
-  short-way a b d [] q h = absurd (let z : _≡_ {A = ℕ} 0 1 = cc (q .starts) in omega arith)
-  short-way a b d (x ∷ []) q h = absurd (d (sym (some-same x a (q .starts)) ∙ some-same x b (q .ends)))
-  short-way a b d (x ∷ (y ∷ [])) q h =
-      inl (subst (λ (z : ℕ). T (l z b)) (some-same x a (q .starts)) (subst (λ (z : ℕ). T (l x z)) (some-same y b (q .ends)) (q .chained .0)))
-  short-way a b d (x ∷ (y ∷ (z ∷ []))) q h =
-      inr (
-        y,
-        q .inside-set y (on-next x y (y ∷ (z ∷ [])) (on-first y (z ∷ []))),
-        subst (λ (u : ℕ). T (l u y)) (some-same x a (q .starts)) (q .chained .0),
-        subst (λ (u : ℕ). T (l y u)) (some-same z b (q .ends)) (q .chained .1 .0),
+  corner : (a : ℕ) → T (has S a) → T (in-triangle l S a) → (b : ℕ) × (c : ℕ) × Triangle l S a b c
+  corner a i t =
+      let (b, q) = some-passes (λ x. has S x && (l a x && leb 1 (shared l a x S))) 64 (leb→le 1 _ t) in
+      let r = and-right (has S b) (l a b && leb 1 (shared l a b S)) q in
+      let (c, w) = one-shared a b (and-right (l a b) (leb 1 (shared l a b S)) r) in (
+        b,
+        c,
+        record {
+          one = i;
+          two = and-left (has S b) (l a b && leb 1 (shared l a b S)) q;
+          three = w .0;
+          one-two = and-left (l a b) (leb 1 (shared l a b S)) r;
+          one-three = w .1;
+          two-three = subst T (N .both-ways c b) (w .2);
+        },
       )
-  short-way a b d (x ∷ (y ∷ (z ∷ (u ∷ p)))) q h = absurd (long (length p) h)
+
+  third-shared : (a b c : ℕ) → Triangle l S a b c → T (leb 1 (shared l a b S))
+  third-shared a b c t = shared-one a b c (t .three, t .one-three, subst T (N .both-ways b c) (t .two-three))
+
+  cornered : (a : ℕ) → (b : ℕ) × (c : ℕ) × Triangle l S a b c → T (in-triangle l S a)
+  cornered a (b, c, t) =
+      at-least-one (λ x. has S x && (l a x && leb 1 (shared l a x S))) b (t .two)
+      (and-both (has S b) (l a b && leb 1 (shared l a b S)) (t .two) (and-both (l a b) (leb 1 (shared l a b S)) (t .one-two) (third-shared a b c t)))
+
+  -- ---- edge triangle: linked or not, two pair exactly when they share a member
+
+  pub pairs-edges : All-pair l edge-triangle S → Edge-triangle-club l S
+  pairs-edges pair = (club-from-ways n l N S (λ a b i j d. let (k, w) = third a b i j d in (by k, w)), triangle)
     where
-      long : (k : ℕ) → suc (suc (suc k)) ≤ 2 → ⊥
-      long k h = omega arith
+      third : (a b : ℕ) → T (has S a) → T (has S b) → (a ≡ b → ⊥) → (k : ℕ) × Leads l S a b (by k)
+      third a b i j d = one-shared a b (and-right (two-of S a b) (leb 1 (shared l a b S)) (pair a b i j d))
 
-  -- ---- a member between is one that the two share
+      triangle : (a b : ℕ) → T (has S a) → T (has S b) → T (l a b) → (c : ℕ) × Triangle l S a b c
+      triangle a b i j t =
+          let (k, w) = third a b i j (λ e. fails (N .not-itself a) (subst (λ (z : ℕ). T (l a z)) (sym e) t)) in
+          (k, record { one = i; two = j; three = w .0; one-two = t; one-three = w .1; two-three = subst T (N .both-ways k b) (w .2) })
 
-  pub shared-some : (a b : ℕ) → T (leb 1 (shared l a b S)) → (k : ℕ) × T (has S k) × T (l a k) × T (l k b)
-  shared-some a b t =
-      let m = some-passes (λ k. has S k && (l a k && l b k)) 64 (leb→le 1 (shared l a b S) t) in
-      let k = m .0 in
-      let r = and-right (has S k) (l a k && l b k) (m .1) in
-      (k, and-left (has S k) (l a k && l b k) (m .1), and-left (l a k) (l b k) r, subst T (N .both-ways b k) (and-right (l a k) (l b k) r))
-
-  pub some-shared : Set-of n S → (a b k : ℕ) → T (has S k) → T (l a k) → T (l k b) → T (leb 1 (shared l a b S))
-  some-shared small a b k i s t =
-      le→leb 1 (shared l a b S) (one-passes (λ x. has S x && (l a x && l b x)) 64 k wide (and-both (has S k) (l a k && l b k) i (and-both (l a k) (l b k) s (subst T (N .both-ways k b) t))))
+  pub edges-pair : Edge-triangle-club l S → All-pair l edge-triangle S
+  edges-pair (c, triangle) a b i j d = and-both (two-of S a b) (leb 1 (shared l a b S)) (two-from S a b i j d) (share (way-in-club n l N S c a b i j d))
     where
-      wide : T (inside 64 k)
-      wide = inside-of 64 k (inside-from n k (small k i)) (omega (arith, inside-to n k (small k i), N .few))
+      share : (w : Way) × Leads l S a b w → T (leb 1 (shared l a b S))
+      share (straight, t) = let (k, u) = triangle a b i j t in third-shared a b k u
+      share (by k, w) = shared-one a b k w
+
+  -- ---- hereditary: one that two share stays when fewer leave than they share, and none stays when all of them leave
+
+  module _ (t : ℕ) where
+    pairs-stay : All-pair l (hereditary t) S → Hereditary-club t l S
+    pairs-stay pair U R within few remains = club-from-ways n l N R way
+      where
+        stayed : (x : ℕ) → T (has R x) → T (has S x)
+        stayed x q = and-left (has S x) (not (has U x)) (subst T (remains x) q)
+
+        way : (a b : ℕ) → T (has R a) → T (has R b) → (a ≡ b → ⊥) → (w : Way) × Leads l R a b w
+        way a b i j d = joined (or-cases (l a b) (leb (t + 1) (shared l a b S)) (and-right (two-of S a b) (l a b || leb (t + 1) (shared l a b S)) (pair a b (stayed a i) (stayed b j) d)))
+          where
+            joined : T (l a b) ⊎ T (leb (t + 1) (shared l a b S)) → (w : Way) × Leads l R a b w
+            joined (inl q) = (straight, q)
+            joined (inr q) =
+                let (k, c, out) = more-pass (has U) (common l S a b) 64 (omega (arith, few, leb→le (t + 1) (shared l a b S) q)) in
+                let (i, s, u) = way-by a b k c in
+                (by k, (subst T (sym (remains k)) (and-both (has S k) (not (has U k)) i (not-T (has U k) out)), s, u))
+
+    stay-pairs : Hereditary-club t l S → All-pair l (hereditary t) S
+    stay-pairs H a b i j d = and-both (two-of S a b) (l a b || leb (t + 1) (shared l a b S)) (two-from S a b i j d) (elim (cases-lt t (shared l a b S)) [
+      | inl h ↦ or-right (l a b) (leb (t + 1) (shared l a b S)) (le→leb (t + 1) (shared l a b S) (omega arith))
+      | inr h ↦ or-left (l a b) (leb (t + 1) (shared l a b S)) (linked h)
+    ])
+      where
+        -- all that they share leave
+        gone : (U : ℕ) × ((x : ℕ) → has U x ≡ (inside 64 x && common l S a b x))
+        gone = gathered (common l S a b) 64 (le-refl 64)
+
+        U : ℕ
+        U = gone .0
+
+        left : (R : ℕ) × ((x : ℕ) → has R x ≡ (inside 64 x && (has S x && not (has U x))))
+        left = gathered (λ x. has S x && not (has U x)) 64 (le-refl 64)
+
+        R : ℕ
+        R = left .0
+
+        leaves : (x : ℕ) → T (has U x) → T (common l S a b x)
+        leaves x q = and-right (inside 64 x) (common l S a b x) (subst T (gone .1 x) q)
+
+        remains : Remains S U R
+        remains x = left .1 x ∙ inner (inside 64 x) (has S x) (has U x) (known x)
+          where
+            inner : (b c d : Bool) → (T c → T b) → (b && (c && not d)) ≡ (c && not d)
+            inner true c d f = refl
+            inner false true d f = absurd (f tt)
+            inner false false d f = refl
+
+        remain : (x : ℕ) → T (has S x) → (T (common l S a b x) → ⊥) → T (has R x)
+        remain x q out = subst T (sym (remains x)) (and-both (has S x) (not (has U x)) q (not-T (has U x) (λ u. out (leaves x u))))
+
+        as-many : size U ≡ shared l a b S
+        as-many = tally-same (has U) (common l S a b) 64 (λ k h. gone .1 (suc k) ∙ counted (inside 64 (suc k)) (common l S a b (suc k)) (inside-of 64 (suc k) (omega arith) h))
+          where
+            counted : (b c : Bool) → T b → (b && c) ≡ c
+            counted true c t = refl
+            counted false c t = absurd t
+
+        linked : shared l a b S ≤ t → T (l a b)
+        linked h = still (way-in-club n l N R (H U R (λ x q. and-left (has S x) (l a x && l b x) (leaves x q)) (omega (arith, h, as-many)) remains) a b (remain a i not-a) (remain b j not-b) d)
+          where
+            not-a : T (common l S a b a) → ⊥
+            not-a q = fails (N .not-itself a) (and-left (l a a) (l b a) (and-right (has S a) (l a a && l b a) q))
+
+            not-b : T (common l S a b b) → ⊥
+            not-b q = fails (N .not-itself b) (and-right (l a b) (l b b) (and-right (has S b) (l a b && l b b) q))
+
+            still : (w : Way) × Leads l R a b w → T (l a b)
+            still (straight, q) = q
+            still (by k, (q, s, u)) =
+                let r = subst T (remains k) q in
+                let c = by-common a b k (and-left (has S k) (not (has U k)) r, s, u) in
+                absurd (T-not (has U k) (and-right (has S k) (not (has U k)) r) (subst T (sym (gone .1 k)) (and-both (inside 64 k) (common l S a b k) (known k (and-left (has S k) (not (has U k)) r)) c)))
+
+-- ---- the groups of the models
 
 pub plain-agrees : Agrees plain Two-club
-plain-agrees n l S a₀ N small i₀ = (club, group)
-  where
-    club : Group n l plain S → Two-club l S
-    club g a b i j = elim (cases-eq a b) [
-      | inl e ↦ subst (λ (z : ℕ). Distance-up-to 2 l S a z) e (stay n l N S a i)
-      | inr d ↦ joined d (or-cases (l a b) (leb 1 (shared l a b S)) (and-right (two-of S a b) (l a b || leb 1 (shared l a b S)) (g .all-pair a b i j d)))
-    ]
-      where
-        joined : (a ≡ b → ⊥) → T (l a b) ⊎ T (leb 1 (shared l a b S)) → Distance-up-to 2 l S a b
-        joined d (inl t) = direct n l N S a b i j t
-        joined d (inr t) = let (k, h, s, u) = shared-some n l N S a b t in by-way n l N S a k b i h j d s u
+plain-agrees n l S a N small i = (
+  (λ g. pairs-club n l N S small (g .all-pair)),
+  λ c. record { members = small; some = (a, i); all-fit = λ x t. t; all-pair = club-pairs n l N S small c },
+)
 
-    group : Two-club l S → Group n l plain S
-    group c = record { members = small; some = (a₀, i₀); all-fit = λ a i. i; all-pair = pair }
-      where
-        near : (a b : ℕ) → T (l a b) ⊎ ((k : ℕ) × T (has S k) × T (l a k) × T (l k b)) → T (l a b || leb 1 (shared l a b S))
-        near a b (inl t) = or-left (l a b) (leb 1 (shared l a b S)) t
-        near a b (inr (k, h, s, u)) = or-right (l a b) (leb 1 (shared l a b S)) (some-shared n l N S small a b k h s u)
+pub hereditary-agrees : (t : ℕ) → Agrees (hereditary t) (Hereditary-club t)
+hereditary-agrees t n l S a N small i = (
+  (λ g. pairs-stay n l N S small t (g .all-pair)),
+  λ c. record { members = small; some = (a, i); all-fit = λ x q. q; all-pair = stay-pairs n l N S small t c },
+)
 
-        pair : (a b : ℕ) → T (has S a) → T (has S b) → (a ≡ b → ⊥) → T (plain .pairs l S a b)
-        pair a b i j d =
-            let (p, q, h) = c a b i j in
-            and-both (two-of S a b) (l a b || leb 1 (shared l a b S)) (two-from S a b i j d) (near a b (short-way n l N S a b d p q h))
+pub vertex-triangle-agrees : Agrees vertex-triangle Vertex-triangle-club
+vertex-triangle-agrees n l S a N small i = (
+  (λ g. (pairs-club n l N S small (g .all-pair), λ x t. corner n l N S small x t (and-right (has S x) (in-triangle l S x) (g .all-fit x t)))),
+  λ (club, corners). record {
+    members = small;
+    some = (a, i);
+    all-fit = λ x t. and-both (has S x) (in-triangle l S x) t (cornered n l N S small x (corners x t));
+    all-pair = club-pairs n l N S small club;
+  },
+)
+
+pub edge-triangle-agrees : Agrees edge-triangle Edge-triangle-club
+edge-triangle-agrees n l S a N small i = (
+  (λ g. pairs-edges n l N S small (g .all-pair)),
+  λ c. record { members = small; some = (a, i); all-fit = λ x t. t; all-pair = edges-pair n l N S small c },
+)

@@ -1,6 +1,6 @@
 -- How many numbers pass a test. Assumes nothing.
 use mathlib.Core.Path.{_≡_, refl, sym, ap, ap₂, _∙_}
-use mathlib.Core.Bool.{Bool, true, false, cond, _||_}
+use mathlib.Core.Bool.{Bool, true, false, cond, not, _&&_, _||_}
 use mathlib.Core.Logic.{inl, inr}
 use Prim.Native.Nat.{ℕ, zero, suc, _+_, _/_, _%_, _^_, _≤_, _<_, zero-le}
 use native.Mathlib.Nat.{le-refl, le-trans, le-suc, mod-lt}
@@ -9,7 +9,9 @@ use lib.Dec.{T, eqb, lit<}
 use lib.Arith.{lt-one}
 use lib.Count.{ones, ones-step}
 use Rattle.std.proofs.shelf.Tests.{cases-eq, eq-eqb, ne-eqb}
+use Rattle.std.proofs.shelf.Ways.{tells}
 use Rattle.rules.specs.Sets.{has, tally}
+use Rattle.rules.proofs.Tests.{as-true, passes, fails}
 use Rattle.rules.proofs.Digits.{has-first, has-next, half-lt}
 
 pub tally-same : (p q : ℕ → Bool) (n : ℕ) → ((k : ℕ) → k < n → p (suc k) ≡ q (suc k)) → tally p n ≡ tally q n
@@ -54,6 +56,35 @@ tally-one p v (suc n) l h z = elim (cases-eq (suc n) v) [
       let x : _≡_ {A = ℕ} (cond (eqb (suc n) v || p (suc n)) 1 0) (cond (p (suc n)) 1 0) = ap (λ (b : Bool). cond {A = ℕ} (b || p (suc n)) 1 0) (ne-eqb _ _ d) in
       omega (arith, x, tally-one p v n l (omega arith) z)
 ]
+
+-- one that passes is counted, and then all others
+pub tally-without : (p : ℕ → Bool) (v n : ℕ) → 1 ≤ v → v ≤ n → T (p v) → tally p n ≡ suc (tally (λ b. p b && not (eqb b v)) n)
+tally-without p v n l h t = tally-same p (λ b. eqb b v || (p b && not (eqb b v))) n (λ k g. parted (suc k)) ∙ tally-one (λ b. p b && not (eqb b v)) v n l h (gone (p v) (eq-eqb v v refl))
+  where
+    parted : (b : ℕ) → p b ≡ (eqb b v || (p b && not (eqb b v)))
+    parted b = elim (cases-eq b v) [ inl e ↦ let q : p b ≡ true = ap p e ∙ as-true (p v) t in grind (arith, tells) | inr d ↦ grind (arith, tells) ]
+
+    gone : (b : Bool) → eqb v v ≡ true → (b && not (eqb v v)) ≡ false
+    gone b e = grind (arith, tells)
+
+-- where one passes, at least one is counted
+pub one-passes : (p : ℕ → Bool) (v n : ℕ) → 1 ≤ v → v ≤ n → T (p v) → 1 ≤ tally p n
+one-passes p v n l h t = let e = tally-without p v n l h t in omega arith
+
+-- where more pass q than p, some number passes q and not p
+pub more-pass : (p q : ℕ → Bool) (n : ℕ) → tally p n < tally q n → (k : ℕ) × T (q k) × (T (p k) → ⊥)
+unfolding tally
+more-pass p q zero h = absurd (omega arith)
+more-pass p q (suc n) h = go (p (suc n)) (q (suc n)) refl refl h (λ g. more-pass p q n g)
+  where
+    go : (b c : Bool) → p (suc n) ≡ b → q (suc n) ≡ c → cond b 1 0 + tally p n < cond c 1 0 + tally q n → (tally p n < tally q n → (k : ℕ) × T (q k) × (T (p k) → ⊥)) → (k : ℕ) × T (q k) × (T (p k) → ⊥)
+    go false true d e h rest = (suc n, passes e, fails d)
+    go false false d e h rest = rest (omega arith)
+    go true true d e h rest = rest (omega arith)
+    go true false d e h rest = rest (omega arith)
+
+pub some-passes : (p : ℕ → Bool) (n : ℕ) → 1 ≤ tally p n → (k : ℕ) × T (p k)
+some-passes p n h = let (k, t, _) = more-pass (λ b. false) p n (omega (arith, tally-none n)) in (k, t)
 
 -- ---- the ones of a word
 

@@ -7,3 +7,5 @@ pub mod Models
 pub mod Standings
 pub mod Paths
 pub mod Published
+pub mod Kinds
+pub mod Worked

@@ -1,9 +1,9 @@
 -- Models, their laws and their groups. Assumes nothing.
 use mathlib.Core.Path.{_≡_}
-use mathlib.Core.Bool.{Bool, not, _&&_, _||_}
-use Prim.Native.Nat.{ℕ}
-use lib.Dec.{T, eqb, leb}
-use Rattle.rules.specs.Sets.{has, Within, Set-of}
+use mathlib.Core.Bool.{Bool, _&&_, _||_}
+use Prim.Native.Nat.{ℕ, _+_, _-_}
+use lib.Dec.{T, leb}
+use Rattle.rules.specs.Sets.{has, two-of, Within, Set-of, tally}
 use Rattle.rules.specs.Links.{Links, shared}
 
 -- what a model means: whether a member fits a set, and whether two members pair in it, from the links, the set and those asked about alone
@@ -36,10 +36,29 @@ pub record Group (n : ℕ) (l : Links) (m : Meaning) (S : ℕ) : Type 0 where
   pub all-fit : All-fit l m S
   pub all-pair : All-pair l m S
 
--- a and b are two different members of S
-abbrev pub two-of : ℕ → ℕ → ℕ → Bool
-two-of S a b = has S a && (has S b && not (eqb a b))
+-- some member of S is linked to a, and a third to both
+abbrev pub in-triangle : Links → ℕ → ℕ → Bool
+in-triangle l S a = leb 1 (tally (λ b. has S b && (l a b && leb 1 (shared l a b S))) 64)
 
--- the plain model: every member fits, and two pair when they are linked or share at least one member of the set
+-- two pair when linked, or when they share at least one member of the set; everybody fits
 abbrev pub plain : Meaning
 plain = record { fits = λ l S a. has S a; pairs = λ l S a b. two-of S a b && (l a b || leb 1 (shared l a b S)) }
+
+-- two pair when linked and they share at least t - 1, or when they share at least t; everybody fits
+abbrev pub robust : ℕ → Meaning
+robust t = record {
+  fits = λ l S a. has S a;
+  pairs = λ l S a b. two-of S a b && ((l a b && leb (t - 1) (shared l a b S)) || leb t (shared l a b S));
+}
+
+-- two pair when linked, or when they share at least t + 1; everybody fits
+abbrev pub hereditary : ℕ → Meaning
+hereditary t = record { fits = λ l S a. has S a; pairs = λ l S a b. two-of S a b && (l a b || leb (t + 1) (shared l a b S)) }
+
+-- two pair as in plain; a member fits when two members of the set are linked to it and to each other
+abbrev pub vertex-triangle : Meaning
+vertex-triangle = record { fits = λ l S a. has S a && in-triangle l S a; pairs = plain .pairs }
+
+-- two pair when they share at least one member, linked or not; everybody fits
+abbrev pub edge-triangle : Meaning
+edge-triangle = record { fits = λ l S a. has S a; pairs = λ l S a b. two-of S a b && leb 1 (shared l a b S) }

@@ -1,11 +1,13 @@
--- Paths inside a set, and distance by them. Assumes nothing.
+-- Paths inside a set, distance by them, and families of paths that are apart. Assumes nothing.
 use mathlib.Core.Path.{_≡_}
+use mathlib.Core.Logic.{_⊎_}
 use mathlib.Core.List.{List, [], _∷_}
 use Prim.Native.Nat.{ℕ, _≤_}
 use lib.Dec.{T}
 use lib.ListN.{length}
 use Rattle.std.specs.declared.option.Option.{Option}
 use Rattle.std.specs.declared.option.Option.the-variants.{Some, None}
+use Rattle.std.specs.shelf.Lists.{All}
 use Rattle.rules.specs.Sets.{has}
 use Rattle.rules.specs.Links.{Links}
 use Rattle.rules.specs.Sheets.{on}
@@ -46,3 +48,18 @@ path-length (x ∷ p) = length p
 -- the distance of a and b in S is at most k
 abbrev pub Distance-up-to : ℕ → Links → ℕ → ℕ → ℕ → Type 0
 Distance-up-to k l S a b = (p : List ℕ) × Path-in l S a b p × (path-length p ≤ k)
+
+-- two paths from a to b are apart: they are different and share nothing but their ends
+abbrev pub Apart : ℕ → ℕ → List ℕ → List ℕ → Type 0
+Apart a b p q = (p ≡ q → ⊥) × ((x : ℕ) → T (on p x) → T (on q x) → (x ≡ a) ⊎ (x ≡ b))
+
+-- every two of the paths from a to b are apart
+abbrev pub Every-two-apart : ℕ → ℕ → List (List ℕ) → Type 0
+Every-two-apart a b [] = Unit {0}
+Every-two-apart a b (p ∷ ps) = All (Apart a b p) ps × Every-two-apart a b ps
+
+-- t paths from a to b in S, every two of them apart
+pub record Disjoint-paths (t : ℕ) (l : Links) (S a b : ℕ) (ps : List (List ℕ)) : Type 0 where
+  pub number : length ps ≡ t
+  pub paths : All (Path-in l S a b) ps
+  pub apart : Every-two-apart a b ps

@@ -16,6 +16,11 @@ use Rattle.rules.specs.Links.{Links, no-links, linking, unlinking, link-count}
 abbrev pub try : Bool → Refusal → Option Refusal → Option Refusal
 try test e rest = cond test (Some e) rest
 
+-- the first refusal, and where there is none the second
+abbrev pub or-else : Option Refusal → Option Refusal → Option Refusal
+or-else (Some e) second = Some e
+or-else None second = second
+
 -- no member of 1 to n
 abbrev pub unknown : ℕ → ℕ → Bool
 unknown n a = not (inside n a)

@@ -24,6 +24,10 @@ unfoldable pub has : ℕ → ℕ → Bool
 has S zero = false
 has S (suc k) = eqb (S / 2 ^ k % 2) 1
 
+-- a and b are two different members of S
+abbrev pub two-of : ℕ → ℕ → ℕ → Bool
+two-of S a b = has S a && (has S b && not (eqb a b))
+
 -- nobody is a member of S
 abbrev pub Empty-set : ℕ → Type 0
 Empty-set S = (a : ℕ) → has S a ≡ false
@@ -39,6 +43,10 @@ Set-of n S = (a : ℕ) → T (has S a) → T (inside n a)
 -- R is S without v
 abbrev pub Leaves : ℕ → ℕ → ℕ → Type 0
 Leaves S v R = (a : ℕ) → has R a ≡ (has S a && not (eqb a v))
+
+-- R is what remains of S when the members of U leave
+abbrev pub Remains : ℕ → ℕ → ℕ → Type 0
+Remains S U R = (a : ℕ) → has R a ≡ (has S a && not (has U a))
 
 -- how many of the numbers 1 to n pass the test
 unfoldable pub tally : (ℕ → Bool) → ℕ → ℕ

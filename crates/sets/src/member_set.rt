@@ -2,7 +2,7 @@ ghost use mathlib.Core.Path.{_≡_};
 ghost use mathlib.Core.Bool.{not, _&&_, _||_};
 ghost use Prim.Native.Nat.{ℕ};
 ghost use lib.Dec.{eqb, ltb};
-ghost use Rattle.rules.specs.Sets.{Tells, differs, inside, has, Empty-set, Within, Set-of, Leaves, size, Smallest, Same-members, Size-laws};
+ghost use Rattle.rules.specs.Sets.{Tells, differs, inside, has, two-of, Empty-set, Within, Set-of, Leaves, size, Smallest, Same-members, Size-laws};
 ghost use Rattle.rules.specs.Order.{Better, Beats, Order-laws};
 ghost use Rattle.sets.specs.Words.{word-of};
 use crate::members::Members;
@@ -42,6 +42,13 @@ impl MemberSet {
             return false;
         }
         (self.word >> (a - 1)) & 1 == 1
+    }
+
+    // Whether a and b are two different members.
+    pub fn has_two(self, a: u32, b: u32) -> bool
+        ensures { λ r. ⌜ r ≡ two-of (self .word) a b ⌝ }
+    {
+        self.has(a) && self.has(b) && a != b
     }
 
     // The set and a; the set itself where a is no number of a member.
