@@ -1,6 +1,8 @@
 ghost use mathlib.Core.Path.{_≡_};
 ghost use Rattle.rules.specs.Models.{in-triangle, vertex-triangle};
 ghost use Rattle.network.specs.Graphs.{links-of};
+use crate::plain::Plain;
+use crate::plain::PlainModel;
 use groups::model::Model;
 use network::graph::Graph;
 use sets::member_set::MemberSet;
@@ -21,7 +23,7 @@ pub impl Model for VertexTriangle as VertexTriangleModel {
     }
 
     fn pair(&self, graph: &Graph, set: MemberSet, a: u32, b: u32) -> bool {
-        set.has_two(a, b) && (graph.linked(a, b) || graph.shared(a, b, set) >= 1)
+        Plain.pair(graph, set, a, b)
     }
 }
 

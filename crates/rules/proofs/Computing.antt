@@ -3,13 +3,11 @@ use mathlib.Core.Path.{_≡_, refl, sym, ap, ap₂, _∙_, subst}
 use mathlib.Core.Bool.{Bool, true, false, not, _&&_, _||_}
 use mathlib.Core.Logic.{inl, inr}
 use mathlib.Core.List.{List, [], _∷_}
-use Prim.Native.Nat.{ℕ, zero, suc, _+_, _-_, _*_, _/_, _%_, _^_, _≤_, _<_}
-use native.Mathlib.Nat.{mod-lt, div-add-mod', zero-mul}
+use Prim.Native.Nat.{ℕ, zero, suc, _-_, _*_, _%_, _^_, _≤_, _<_}
 use native.Mathlib.Omega.{arith}
 use lib.Dec.{T, eqb, ltb, leb, leb→le, ltb→lt, lt→ltb, eqb→eq, T-not, not-T}
-use lib.Pow.{pow-pos}
 use lib.Bits.{bitOr}
-use Rattle.std.proofs.shelf.Tests.{cases-lt, cases-eq, eq-eqb}
+use Rattle.std.proofs.shelf.Tests.{cases-eq, eq-eqb}
 use Rattle.std.proofs.shelf.Ways.{tells}
 use Rattle.vocabulary.specs.declared.standing.Standing.the-variants as standing
 use Rattle.rules.specs.Sets.{has, inside, Set-of}
@@ -18,9 +16,9 @@ use Rattle.rules.specs.Sheets.{on, Named, no-numbers}
 use Rattle.rules.specs.Models.{Meaning, Group}
 use Rattle.rules.specs.Standings.{First-apart, Stands}
 use Rattle.rules.specs.Worked.{Small-network, links-among, Of-those, Lawful, Group-in, Are-group, Are-no-group, No-group, Stand-only}
-use Rattle.rules.proofs.Tests.{as-false, passes, fails, and-left, and-right, and-both, or-cases}
-use Rattle.rules.proofs.Digits.{has-zero, has-high, has-one, has-or, nobody}
-use Rattle.rules.proofs.Members.{same-members, inside-from, inside-to, inside-of}
+use Rattle.rules.proofs.Tests.{passes, fails, and-left, and-right, and-both, or-cases}
+use Rattle.rules.proofs.Digits.{has-one, has-or, nobody}
+use Rattle.rules.proofs.Members.{same-members, inside-from, inside-to, inside-of, set-word}
 use Rattle.rules.proofs.Links.{linking-both, linking-itself, linking-only}
 use Rattle.rules.proofs.Standings.{one-standing}
 
@@ -122,23 +120,6 @@ module _ (n : ℕ) (few : T (leb n 64)) where
   of-those : (list : List ℕ) {P : ℕ → Type 0} → T (all-inside n list) → P (word-of list) → Of-those list P
   of-those list {P} t p =
       ((word-of list, word-named list t), λ S e. subst P (same-members (word-of list) S (λ a. word-named list t a ∙ sym (e a))) p)
-
--- a set of the members 1 to n is a word below 2 ^ n
-set-word : (n S : ℕ) → Set-of n S → S < 2 ^ n
-set-word n S small = elim (cases-lt S (2 ^ n)) [ inl h ↦ h | inr h ↦ absurd (high h) ]
-  where
-    none : (k : ℕ) → has (S / 2 ^ n) (suc k) ≡ false
-    none k = has-high n S k ∙ as-false (has S (suc (n + k))) (λ t. let h = inside-to n (suc (n + k)) (small (suc (n + k)) t) in omega arith)
-
-    empty : S / 2 ^ n ≡ 0
-    empty = same-members (S / 2 ^ n) 0 at
-      where
-        at : (a : ℕ) → has (S / 2 ^ n) a ≡ has 0 a
-        at zero = has-zero (S / 2 ^ n) ∙ sym (has-zero 0)
-        at (suc k) = none k ∙ sym (nobody (suc k))
-
-    high : 2 ^ n ≤ S → ⊥
-    high h = let q = div-add-mod' S (2 ^ n) in let e : S / 2 ^ n * 2 ^ n ≡ 0 = ap (λ (x : ℕ). x * 2 ^ n) empty ∙ zero-mul (2 ^ n) in omega (arith, mod-lt S (pow-pos n), e, q)
 
 -- ---- lawful links
 

@@ -3,19 +3,19 @@ use mathlib.Core.Path.{_≡_, refl, sym, ap, ap₂, _∙_, subst}
 use mathlib.Core.Bool.{Bool, true, false, not, _&&_, _||_}
 use mathlib.Core.Logic.{_⊎_, inl, inr}
 use Prim.Native.Nat.{ℕ, zero, suc, _+_, _-_, _*_, _/_, _%_, _^_, _≤_, _<_}
-use native.Mathlib.Nat.{mod-lt, div-add-mod', lt-of-lt-of-le}
+use native.Mathlib.Nat.{mod-lt, div-add-mod', zero-mul, lt-of-lt-of-le}
 use native.Mathlib.Numerals.{add-one}
 use native.Mathlib.Omega.{arith}
 use lib.Dec.{T, eqb, leb, lit<, leb→le, le→leb, eqb→eq}
 use lib.Arith.{lt-one}
-use lib.Pow.{pow-mono}
+use lib.Pow.{pow-mono, pow-pos}
 use lib.Bits.{bitOr}
 use lib.Count.{trailingZeros}
 use Rattle.std.proofs.shelf.Tests.{cases-lt, cases-eq, eq-eqb}
 use Rattle.std.proofs.shelf.Ways.{tells}
-use Rattle.rules.specs.Sets.{Tells, inside, has, Within, Set-of, Empty-set, Leaves, size, Lowest, Same-members, Size-laws}
-use Rattle.rules.proofs.Tests.{as-true, passes, fails, tells-by, and-left, and-right, and-both}
-use Rattle.rules.proofs.Digits.{has-zero, has-or, has-one, has-first, has-next, half-lt, has-out, nobody, trailing-below, trailing-at}
+use Rattle.rules.specs.Sets.{Tells, inside, has, Within, Set-of, Empty-set, size, Lowest, Same-members, Size-laws}
+use Rattle.rules.proofs.Tests.{as-false, passes, fails, tells-by, and-left, and-right, and-both}
+use Rattle.rules.proofs.Digits.{has-zero, has-or, has-one, has-first, has-next, has-high, half-lt, has-out, nobody, trailing-below, trailing-at}
 use Rattle.rules.proofs.Tallies.{tally-same, tally-mono, tally-without}
 
 -- ---- sets with the same members
@@ -60,6 +60,23 @@ word-set S h a t = elim (cases-lt 0 a) [
   | inl l ↦ elim (cases-lt 64 a) [ inl o ↦ absurd (fails (has-out S a h (inr o)) t) | inr o ↦ inside-of 64 a l o ]
   | inr l ↦ absurd (fails (has-out S a h (inl (omega arith))) t)
 ]
+
+-- a set of the members 1 to n is a word below 2 ^ n
+pub set-word : (n S : ℕ) → Set-of n S → S < 2 ^ n
+set-word n S small = elim (cases-lt S (2 ^ n)) [ inl h ↦ h | inr h ↦ absurd (high h) ]
+  where
+    none : (k : ℕ) → has (S / 2 ^ n) (suc k) ≡ false
+    none k = has-high n S k ∙ as-false (has S (suc (n + k))) (λ t. let h = inside-to n (suc (n + k)) (small (suc (n + k)) t) in omega arith)
+
+    empty : S / 2 ^ n ≡ 0
+    empty = same-members (S / 2 ^ n) 0 at
+      where
+        at : (a : ℕ) → has (S / 2 ^ n) a ≡ has 0 a
+        at zero = has-zero (S / 2 ^ n) ∙ sym (has-zero 0)
+        at (suc k) = none k ∙ sym (nobody (suc k))
+
+    high : 2 ^ n ≤ S → ⊥
+    high h = let q = div-add-mod' S (2 ^ n) in let e : S / 2 ^ n * 2 ^ n ≡ 0 = ap (λ (x : ℕ). x * 2 ^ n) empty ∙ zero-mul (2 ^ n) in omega (arith, mod-lt S (pow-pos n), e, q)
 
 pub no-members : (S : ℕ) → S ≡ 0 → Empty-set S
 no-members S e a = ap (λ (x : ℕ). has x a) e ∙ nobody a

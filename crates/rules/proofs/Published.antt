@@ -1,15 +1,15 @@
 -- The groups of the models are the published ones. Assumes nothing.
-use mathlib.Core.Path.{_≡_, refl, sym, ap, _∙_, subst}
+use mathlib.Core.Path.{_≡_, refl, sym, _∙_, subst}
 use mathlib.Core.Bool.{Bool, true, false, not, _&&_, _||_}
 use mathlib.Core.Logic.{_⊎_, inl, inr}
-use Prim.Native.Nat.{ℕ, suc, _+_, _≤_, _<_}
+use Prim.Native.Nat.{ℕ, suc, _+_, _≤_}
 use native.Mathlib.Nat.{le-refl}
 use native.Mathlib.Omega.{arith}
 use lib.Dec.{T, leb, leb→le, le→leb, T-not, not-T}
 use Rattle.std.proofs.shelf.Tests.{cases-lt}
-use Rattle.rules.specs.Sets.{has, inside, two-of, Within, Set-of, Remains, tally, size}
+use Rattle.rules.specs.Sets.{has, inside, two-of, Set-of, Remains, tally, size}
 use Rattle.rules.specs.Links.{Links, Lawful-links, shared}
-use Rattle.rules.specs.Models.{All-pair, Group, in-triangle, plain, hereditary, vertex-triangle, edge-triangle}
+use Rattle.rules.specs.Models.{All-pair, in-triangle, plain, hereditary, vertex-triangle, edge-triangle}
 use Rattle.rules.specs.Published.{Two-club, Hereditary-club, Triangle, Vertex-triangle-club, Edge-triangle-club, Agrees}
 use Rattle.rules.proofs.Tests.{fails, and-left, and-right, and-both, or-left, or-right, or-cases}
 use Rattle.rules.proofs.Tallies.{tally-same, one-passes, more-pass, some-passes}

@@ -15,7 +15,7 @@ use Rattle.rules.specs.Links.{Links, Lawful-links, shared}
 use Rattle.rules.specs.Models.{All-pair, robust}
 use Rattle.rules.specs.Paths.{Path-in, path-length, Apart, Every-two-apart, Disjoint-paths}
 use Rattle.rules.specs.Published.{Robust-club, Agrees}
-use Rattle.rules.proofs.Tests.{passes, and-left, and-right, and-both, or-left, or-right, or-cases}
+use Rattle.rules.proofs.Tests.{passes, and-left, and-right, and-both, or-left, or-cases}
 use Rattle.rules.proofs.Tallies.{tally-without}
 use Rattle.rules.proofs.Members.{inside-from, inside-to}
 use Rattle.rules.proofs.Models.{two-from}

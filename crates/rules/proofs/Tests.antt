@@ -19,10 +19,6 @@ passes e = subst T (sym e) tt
 pub fails : {b : Bool} → b ≡ false → T b → ⊥
 fails e t = subst T e t
 
-pub either-way : (b : Bool) → T b ⊎ (T b → ⊥)
-either-way true = inl tt
-either-way false = inr (λ x. x)
-
 -- two tests agree, or one passes and the other fails
 pub compared : (b c : Bool) → (b ≡ c) ⊎ ((T b × (T c → ⊥)) ⊎ (T c × (T b → ⊥)))
 compared true true = inl refl

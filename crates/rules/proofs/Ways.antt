@@ -1,6 +1,5 @@
 -- Paths of at most two links: the link itself, or by way of one member. Assumes nothing.
 use mathlib.Core.Path.{_≡_, refl, sym, ap, ap₂, _∙_, subst}
-use mathlib.Core.Bool.{_&&_, _||_}
 use mathlib.Core.Logic.{_⊎_, inl, inr}
 use mathlib.Core.List.{List, [], _∷_}
 use Prim.Native.Nat.{ℕ, suc, _≤_, zero-le}
@@ -13,7 +12,7 @@ use Rattle.std.proofs.shelf.Tests.{cases-eq, eq-eqb}
 use Rattle.rules.specs.Sets.{has}
 use Rattle.rules.specs.Links.{Links, Lawful-links}
 use Rattle.rules.specs.Sheets.{on}
-use Rattle.rules.specs.Paths.{Path-in, path-length, Distance-up-to, Apart}
+use Rattle.rules.specs.Paths.{Path-in, path-length, Apart}
 use Rattle.rules.specs.Published.{Two-club}
 use Rattle.rules.proofs.Tests.{passes, fails, or-left, or-right, or-cases}
 

@@ -1,6 +1,6 @@
 -- A loop over the members of a set: what is true of those that have come. Assumes nothing.
-use mathlib.Core.Path.{sym, subst}
-use mathlib.Core.Bool.{not}
+use mathlib.Core.Path.{_≡_, sym, ap, _∙_, subst}
+use mathlib.Core.Bool.{Bool, not}
 use mathlib.Core.Logic.{inl, inr}
 use Prim.Native.Nat.{ℕ, _<_}
 use native.Mathlib.Omega.{arith}
@@ -13,6 +13,10 @@ use Rattle.rules.proofs.Tests.{fails, and-left, and-both}
 pub record Swept (S : ℕ) (P : ℕ → Type 0) (rest : ℕ) : Type 0 where
   pub within : (a : ℕ) → T (has rest a) → T (has S a)
   pub passed : (a : ℕ) → T (has S a) → (T (has rest a) → ⊥) → P a
+
+-- the members of a set by another name
+pub same-set : (S R : ℕ) (p : ℕ → Bool) → S ≡ R → ((a : ℕ) → has R a ≡ p a) → (a : ℕ) → has S a ≡ p a
+same-set S R p e R-is a = ap (λ (w : ℕ). has w a) e ∙ R-is a
 
 pub sweep-start : (S : ℕ) (P : ℕ → Type 0) → Swept S P S
 sweep-start S P = record { within = λ a t. t; passed = λ a t n. absurd (n t) }

@@ -1,9 +1,10 @@
-use mathlib.Core.Path.{_≡_, sym, ap, _∙_}
-use Prim.Native.Nat.{ℕ}
+use mathlib.Core.Path.{sym, _∙_}
+use mathlib.Core.Bool.{_&&_}
+use lib.Dec.{ltb}
 use Rattle.rules.specs.Sets.{has}
 use Rattle.rules.proofs.Tests.{passes, fails}
 use Rattle.network.specs.Graphs.{links-of}
-use Rattle.sets.proofs.Sweeping.{sweep-start, sweep-step, sweep-end}
+use Rattle.sets.proofs.Sweeping.{same-set, sweep-start, sweep-step, sweep-end}
 use Rattle.groups.proofs.Finding.{pairs-above, first-apart}
 use Rattle.groups.proofs.standing.first_unpaired.Needs as need
 
@@ -20,19 +21,19 @@ loop-b-again g c = (
 
 pub loop-a-again : need.loop-a-again
 loop-a-again g c =
-    let e : c .into-iter-b-iterator .result .rest .word ≡ c .above .result .word = cc in (
+    let above = same-set (c .into-iter-b-iterator .result .rest .word) (c .above .result .word) (λ y. has (c .args .set .word) y && ltb (c .in-Some .a) y) (cc) (c .above .ensures) in (
       tt,
       tt,
       sweep-step (c .args .set .word) _ (c .loop-a .a-iterator .rest .word) (c .in-Some .a) (c .next .last .self .rest .word)
           (c .loop-a .inv .2) (c .in-Some .ensures tt .steps .1)
-          (pairs-above (c .args .set .word) (c .in-Some .a) (c .into-iter-b-iterator .result .rest .word) (λ y. ap (λ (w : ℕ). has w y) e ∙ c .above .ensures y)
+          (pairs-above (c .args .set .word) (c .in-Some .a) (c .into-iter-b-iterator .result .rest .word) above
           (links-of (c .args .graph .now)) (g .M·Model .meaning (c .args .model .now)) (c .loop-b .b-iterator .rest .word) (c .loop-b .inv .2) (c .in-None-b .ensures tt .steps .0)),
     )
 
 pub returns-then-not-pair : need.returns-then-not-pair
 returns-then-not-pair g c =
-    let e : c .into-iter-b-iterator .result .rest .word ≡ c .above .result .word = cc in
-    first-apart (c .args .set .word) (c .in-Some .a) (c .into-iter-b-iterator .result .rest .word) (λ y. ap (λ (w : ℕ). has w y) e ∙ c .above .ensures y)
+    let above = same-set (c .into-iter-b-iterator .result .rest .word) (c .above .result .word) (λ y. has (c .args .set .word) y && ltb (c .in-Some .a) y) (cc) (c .above .ensures) in
+    first-apart (c .args .set .word) (c .in-Some .a) (c .into-iter-b-iterator .result .rest .word) above
     (links-of (c .args .graph .now)) (g .M·Model .meaning (c .args .model .now)) (c .loop-b .b-iterator .rest .word) (c .loop-b .inv .2)
     (c .loop-a .a-iterator .rest .word) (c .in-Some-b .b) (c .loop-a .inv .2) (c .in-Some .ensures tt .steps .0) (c .in-Some-b .ensures tt .steps .0)
     (fails (sym (c .pair .ensures) ∙ c .if-not-pair .taken))
