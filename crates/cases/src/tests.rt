@@ -3,11 +3,6 @@ use matrix::calls::MatrixNetwork;
 use matrix::matrix::Matrix;
 use models::any_model::AnyModel;
 use models::any_model::AnyModelModel;
-use models::edge_triangle::EdgeTriangle;
-use models::hereditary::Hereditary;
-use models::plain::Plain;
-use models::robust::Robust;
-use models::vertex_triangle::VertexTriangle;
 use network::graph::Graph;
 use network::network::Network;
 use sets::member_set::MemberSet;
@@ -86,80 +81,77 @@ fn standing_in(
     Ok(check_group(&model, &Graph::of(&net), set_of(numbers)))
 }
 
+fn stands(
+    example: Example,
+    kind: ModelKind,
+    t: u32,
+    numbers: &[u32],
+    known: Standing,
+) -> Result<(), Fail> {
+    check_eq(standing_in(example, kind, t, numbers)?, known)
+}
+
 #[test]
 fn the_small_networks_stand_as_known() -> Result<(), Fail> {
     let six = [1, 2, 3, 4, 5, 6];
     let star = Example::Star;
-    check_eq(
-        standing_in(star, ModelKind::Plain, 0, &[1, 2, 3, 4, 5])?,
-        Standing::Group,
-    )?;
-    check_eq(
-        standing_in(star, ModelKind::Plain, 0, &[2, 3])?,
-        Standing::Apart(2, 3),
-    )?;
-    check_eq(
-        standing_in(star, ModelKind::VertexTriangle, 0, &[1, 2])?,
+    stands(star, ModelKind::Plain, 0, &[1, 2, 3, 4, 5], Standing::Group)?;
+    stands(star, ModelKind::Plain, 0, &[2, 3], Standing::Apart(2, 3))?;
+    stands(
+        star,
+        ModelKind::VertexTriangle,
+        0,
+        &[1, 2],
         Standing::Loose(1),
     )?;
     let prism = Example::Prism;
-    check_eq(
-        standing_in(prism, ModelKind::VertexTriangle, 0, &six)?,
-        Standing::Group,
-    )?;
-    check_eq(
-        standing_in(prism, ModelKind::EdgeTriangle, 0, &six)?,
+    stands(prism, ModelKind::VertexTriangle, 0, &six, Standing::Group)?;
+    stands(
+        prism,
+        ModelKind::EdgeTriangle,
+        0,
+        &six,
         Standing::Apart(1, 4),
     )?;
-    check_eq(
-        standing_in(prism, ModelKind::EdgeTriangle, 0, &[6, 5, 4])?,
+    stands(
+        prism,
+        ModelKind::EdgeTriangle,
+        0,
+        &[6, 5, 4],
         Standing::Group,
     )?;
-    let rows = Example::TwoRows;
-    check_eq(
-        standing_in(rows, ModelKind::Hereditary, 2, &six)?,
-        Standing::Group,
-    )?;
-    check_eq(
-        standing_in(rows, ModelKind::Hereditary, 3, &six)?,
+    stands(prism, ModelKind::Robust, 2, &[1, 2, 3], Standing::Group)?;
+    stands(
+        prism,
+        ModelKind::Robust,
+        3,
+        &[1, 2, 3],
         Standing::Apart(1, 2),
     )?;
-    check_eq(
-        standing_in(rows, ModelKind::Robust, 1, &six)?,
-        Standing::Group,
-    )?;
-    check_eq(
-        standing_in(rows, ModelKind::Robust, 2, &six)?,
-        Standing::Apart(1, 4),
-    )?;
-    check_eq(
-        standing_in(rows, ModelKind::Robust, 2, &[5])?,
-        Standing::Group,
-    )?;
+    let rows = Example::TwoRows;
+    stands(rows, ModelKind::Hereditary, 2, &six, Standing::Group)?;
+    stands(rows, ModelKind::Hereditary, 3, &six, Standing::Apart(1, 2))?;
+    stands(rows, ModelKind::Robust, 1, &six, Standing::Group)?;
+    stands(rows, ModelKind::Robust, 2, &six, Standing::Apart(1, 4))?;
     let path = Example::Path;
-    check_eq(
-        standing_in(path, ModelKind::Plain, 0, &[1, 3])?,
-        Standing::Apart(1, 3),
-    )?;
-    check_eq(
-        standing_in(path, ModelKind::Plain, 0, &[1, 4])?,
-        Standing::Unknown(4),
-    )?;
-    check_eq(
-        standing_in(path, ModelKind::Plain, 0, &[])?,
-        Standing::Empty,
-    )
+    stands(path, ModelKind::Plain, 0, &[1, 3], Standing::Apart(1, 3))?;
+    stands(path, ModelKind::Plain, 0, &[1, 4], Standing::Unknown(4))?;
+    stands(path, ModelKind::Plain, 0, &[], Standing::Empty)
 }
 
 #[test]
 fn a_parameter_out_of_range_makes_no_model() -> Result<(), Fail> {
-    check(Plain::new(1).is_err())?;
-    check(Robust::new(0).is_err())?;
-    check(Robust::new(64).is_ok())?;
-    check(Robust::new(65).is_err())?;
-    check(Hereditary::new(0).is_ok())?;
-    check(Hereditary::new(63).is_ok())?;
-    check(Hereditary::new(64).is_err())?;
-    check(VertexTriangle::new(1).is_err())?;
-    check(EdgeTriangle::new(1).is_err())
+    let refused = Err(Refusal::BadParameter);
+    let path = Example::Path;
+    check_eq(standing_in(path, ModelKind::Plain, 1, &[1]), refused)?;
+    check_eq(standing_in(path, ModelKind::Robust, 0, &[1]), refused)?;
+    stands(path, ModelKind::Robust, 64, &[1], Standing::Group)?;
+    check_eq(standing_in(path, ModelKind::Robust, 65, &[1]), refused)?;
+    stands(path, ModelKind::Hereditary, 63, &[1], Standing::Group)?;
+    check_eq(standing_in(path, ModelKind::Hereditary, 64, &[1]), refused)?;
+    check_eq(
+        standing_in(path, ModelKind::VertexTriangle, 1, &[1]),
+        refused,
+    )?;
+    check_eq(standing_in(path, ModelKind::EdgeTriangle, 1, &[1]), refused)
 }

@@ -10,9 +10,10 @@ use Rattle.vocabulary.specs.declared.standing.Standing.{Standing}
 use Rattle.vocabulary.specs.declared.model_kind.ModelKind.{ModelKind}
 use Rattle.rules.specs.Links.{linking}
 use Rattle.rules.specs.Refusals.{link-refusal}
-use Rattle.rules.specs.Sheets.{Named, sheet-refusal}
+use Rattle.rules.specs.Lists.{Named}
+use Rattle.rules.specs.Sheets.{sheet-refusal}
 use Rattle.rules.specs.Standings.{Stands-only}
-use Rattle.matrix.specs.Matrices.{members-of, links-of}
+use Rattle.matrix.specs.Matrices.{members-of, links-of, room}
 use Rattle.models.specs.AnyModels.{meaning-of}
 use Rattle.command.specs.Reading.{says}
 use Rattle.command.specs.declared.Command.{Command}
@@ -21,7 +22,7 @@ use Rattle.command.specs.declared.sheet.Sheet.{Sheet}
 use Rattle.check_sheet.specs.declared.setup.Setup.{Setup}
 use Rattle.check_sheet.specs.declared.reply.Reply.{Reply}
 use Rattle.check_sheet.specs.declared.reply.Reply.the-variants.{Done, Judged}
-use Rattle.check_sheet.specs.Setups.{Setup-is, setup-refusal, Set-up}
+use Rattle.check_sheet.specs.Setups.{Setup-is, setup-refusal, Begun}
 use Rattle.check_sheet.specs.Answers.{Changed, Judged-sheet, Answered}
 
 module _ (before : Option Setup) (command : Command) where
@@ -33,15 +34,15 @@ module _ (before : Option Setup) (command : Command) where
   taken : (o : Option Refusal) (P : Setup → Type 0) (s : Setup) → o ≡ None → P s → Changed o P before Done (Some s)
   taken o P s free p = subst (λ (x : Option Refusal). Changed x P before Done (Some s)) (sym free) (refl, p)
 
-  pub opened : (n : ℕ) (k : ModelKind) (t : ℕ) (s : Setup) → before ≡ None → command ≡ Network n k t → setup-refusal n k t ≡ None → Set-up n k t s → Answered before (says command) Done (Some s)
+  pub opened : (n : ℕ) (k : ModelKind) (t : ℕ) (s : Setup) → before ≡ None → command ≡ Network n k t → setup-refusal n k t ≡ None → Begun n k t s → Answered before (says command) Done (Some s)
   opened n k t s e d free made =
-      found None (Network n k t) Done (Some s) e d (subst (λ (b : Option Setup). Changed (setup-refusal n k t) (Set-up n k t) b Done (Some s)) e (taken (setup-refusal n k t) (Set-up n k t) s free made))
+      found None (Network n k t) Done (Some s) e d (subst (λ (b : Option Setup). Changed (setup-refusal n k t) (Begun n k t) b Done (Some s)) e (taken (setup-refusal n k t) (Begun n k t) s free made))
 
-  pub linked : (s after : Setup) (a b : ℕ) → before ≡ Some s → command ≡ Link a b → link-refusal (members-of (s .net)) 2016 (links-of (s .net)) a b ≡ None
+  pub linked : (s after : Setup) (a b : ℕ) → before ≡ Some s → command ≡ Link a b → link-refusal (members-of (s .net)) room (links-of (s .net)) a b ≡ None
       → Setup-is (members-of (s .net)) (linking a b (links-of (s .net))) (meaning-of (s .model)) after → Answered before (says command) Done (Some after)
   linked s after a b e d free is =
       let P = Setup-is (members-of (s .net)) (linking a b (links-of (s .net))) (meaning-of (s .model)) in
-      let o = link-refusal (members-of (s .net)) 2016 (links-of (s .net)) a b in
+      let o = link-refusal (members-of (s .net)) room (links-of (s .net)) a b in
       found (Some s) (Link a b) Done (Some after) e d (subst (λ (x : Option Setup). Changed o P x Done (Some after)) e (taken o P after free is))
 
   pub judged : (s : Setup) (sheet : Sheet) (numbers : List ℕ) (S : ℕ) (standing : Standing) → before ≡ Some s → command ≡ Command.Sheet sheet → numbers ≡ take (sheet .len) (sheet .bytes)

@@ -8,15 +8,16 @@ use Rattle.vocabulary.specs.declared.refusal.Refusal.{Refusal}
 use Rattle.vocabulary.specs.declared.standing.Standing.{Standing}
 use Rattle.rules.specs.Links.{linking}
 use Rattle.rules.specs.Refusals.{link-refusal}
-use Rattle.rules.specs.Sheets.{Named, sheet-refusal}
+use Rattle.rules.specs.Lists.{Named}
+use Rattle.rules.specs.Sheets.{sheet-refusal}
 use Rattle.rules.specs.Standings.{Stands-only}
-use Rattle.matrix.specs.Matrices.{members-of, links-of}
+use Rattle.matrix.specs.Matrices.{members-of, links-of, room}
 use Rattle.models.specs.AnyModels.{meaning-of}
 use Rattle.command.specs.Grammar.{Spelled, network, link, sheet, Written}
 use Rattle.check_sheet.specs.declared.setup.Setup.{Setup}
 use Rattle.check_sheet.specs.declared.reply.Reply.{Reply}
 use Rattle.check_sheet.specs.declared.reply.Reply.the-variants.{Done, Refused, Judged, Unreadable}
-use Rattle.check_sheet.specs.Setups.{Setup-is, setup-refusal, Set-up}
+use Rattle.check_sheet.specs.Setups.{Setup-is, setup-refusal, Begun}
 
 -- there is one, and P is true of it
 abbrev pub There-is : (Setup → Type 0) → Option Setup → Type 0
@@ -36,12 +37,12 @@ Judged-sheet (Some e) s numbers r = r ≡ Refused e
 
 -- network and model are made once, and before all else
 abbrev pub Answered : Option Setup → Spelled → Reply → Option Setup → Type 0
-Answered None (network n k t) r after = Changed (setup-refusal n k t) (Set-up n k t) None r after
+Answered None (network n k t) r after = Changed (setup-refusal n k t) (Begun n k t) None r after
 Answered None (link a b) r after = (r ≡ Unreadable) × (after ≡ None)
 Answered None (sheet numbers) r after = (r ≡ Unreadable) × (after ≡ None)
 Answered (Some s) (network n k t) r after = (r ≡ Unreadable) × (after ≡ Some s)
 Answered (Some s) (link a b) r after =
-    Changed (link-refusal (members-of (s .net)) 2016 (links-of (s .net)) a b) (Setup-is (members-of (s .net)) (linking a b (links-of (s .net))) (meaning-of (s .model))) (Some s) r after
+    Changed (link-refusal (members-of (s .net)) room (links-of (s .net)) a b) (Setup-is (members-of (s .net)) (linking a b (links-of (s .net))) (meaning-of (s .model))) (Some s) r after
 Answered (Some s) (sheet numbers) r after = Judged-sheet (sheet-refusal (members-of (s .net)) numbers) s numbers r × (after ≡ Some s)
 
 -- what a line does: what its command does, or nothing where no command is written so

@@ -1,4 +1,4 @@
--- A network with its model, as the first line asks for them. Assumes nothing.
+-- A network with its model, as a line `N` asks for them. Assumes nothing.
 use mathlib.Core.Path.{_≡_}
 use Prim.Native.Nat.{ℕ}
 use Rattle.std.specs.declared.option.Option.{Option}
@@ -27,10 +27,10 @@ abbrev pub setup-refusal : ℕ → ModelKind → ℕ → Option Refusal
 setup-refusal n k t = or-else (making-refusal n) (parameter-refusal k t)
 
 -- a network without links, under a model whose groups are the published ones
-pub record Set-up (n : ℕ) (k : ModelKind) (t : ℕ) (s : Setup) : Type 0 where
+pub record Begun (n : ℕ) (k : ModelKind) (t : ℕ) (s : Setup) : Type 0 where
   pub is : Setup-is n no-links (rule k t) s
   pub agrees : Agrees (rule k t) (published k t)
 
 abbrev pub Setup-made : ℕ → ModelKind → ℕ → Result Setup Refusal → Type 0
-Setup-made n k t (Ok s) = (setup-refusal n k t ≡ None) × Set-up n k t s
+Setup-made n k t (Ok s) = (setup-refusal n k t ≡ None) × Begun n k t s
 Setup-made n k t (Err e) = setup-refusal n k t ≡ Some e

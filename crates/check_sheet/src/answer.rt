@@ -9,14 +9,14 @@ use models::any_model::AnyModelModel;
 use network::network::Network;
 
 // What a command does to the network, and what is replied. Network and model are made once, and before all else.
-pub fn answer(setup: &mut Option<Setup>, command: Command) -> Reply
+pub(crate) fn answer(setup: &mut Option<Setup>, command: Command) -> Reply
     ensures { λ r. ⌜ Answered (now (setup .entry)) (says command) r (now (setup .exit)) ⌝ }
 {
     let Some(mut current) = *setup else {
-        let Command::Network(n, kind, t) = command else {
+        let Command::Network { n, model, t } = command else {
             return Reply::Unreadable;
         };
-        return match Setup::new(n, kind, t) {
+        return match Setup::new(n, model, t) {
             Ok(made) => {
                 *setup = Some(made);
                 Reply::Done
@@ -25,7 +25,7 @@ pub fn answer(setup: &mut Option<Setup>, command: Command) -> Reply
         };
     };
     match command {
-        Command::Network(_, _, _) => Reply::Unreadable,
+        Command::Network { .. } => Reply::Unreadable,
         Command::Link(a, b) => match current.net.link(a, b) {
             Ok(()) => {
                 *setup = Some(current);

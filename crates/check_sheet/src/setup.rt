@@ -14,7 +14,7 @@ pub struct Setup {
 }
 
 impl Setup {
-    // A network of n members without links. Its refusals are tried before the model's.
+    // A network of n members without links, and the model. The network's refusals are tried before the model's.
     pub(crate) fn new(n: u32, kind: ModelKind, t: u32) -> Result<Setup, Refusal>
         ensures { λ r. ⌜ Setup-made n kind t r ⌝ }
     {

@@ -1,4 +1,4 @@
--- What a line buffer has gathered.
+-- What a line buffer has gathered. Assumes nothing.
 use mathlib.Core.Path.{_≡_}
 use mathlib.Core.List.{List}
 use mathlib.Core.Bool.{true, false}

@@ -1,4 +1,4 @@
--- How a line is written: what each command looks like as bytes.
+-- How a line is written: what each command looks like as bytes. Assumes nothing.
 use mathlib.Core.Path.{_≡_}
 use mathlib.Core.List.{List, [], _∷_, _++_}
 use Prim.Native.Nat.{ℕ, _+_, _-_, _*_, _≤_}

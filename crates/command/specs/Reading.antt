@@ -1,4 +1,4 @@
--- What it means that a line was read as a command, or refused.
+-- What it means that a line was read as a command, or refused. Assumes nothing.
 use mathlib.Core.Path.{_≡_}
 use mathlib.Core.List.{List}
 use Prim.Native.Nat.{ℕ}

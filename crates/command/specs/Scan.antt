@@ -1,4 +1,4 @@
--- One field on a line, a number or a model, and what follows it.
+-- One field on a line, a number or a model, and what follows it. Assumes nothing.
 use mathlib.Core.Path.{_≡_}
 use mathlib.Core.List.{List, [], _∷_, _++_}
 use Prim.Native.Nat.{ℕ, _<_, _≤_}

@@ -18,7 +18,7 @@ use vocabulary::model_kind::ModelKind;
 
 #[derive(Clone, Copy)]
 pub enum Command {
-    Network(u32, ModelKind, u32),
+    Network { n: u32, model: ModelKind, t: u32 },
     Link(u32, u32),
     Sheet(Sheet),
 }
@@ -34,7 +34,7 @@ fn network_of(fields: &[u8]) -> Option<Command>
     let (model, rest) = model_field(rest)?;
     let (t, rest) = field(rest)?;
     if rest.is_empty() {
-        Some(Command::Network(n, model, t))
+        Some(Command::Network { n, model, t })
     } else {
         None
     }

@@ -4,6 +4,7 @@ ghost use Prim.Native.Nat.{ℕ};
 ghost use Rattle.std.specs.declared.option.Option.the-variants.{Some, None};
 ghost use Rattle.command.specs.Grammar.{model-letter};
 ghost use Rattle.command.specs.Scan.{Model-field};
+use crate::field::after_space;
 use vocabulary::model_kind::ModelKind;
 
 // The model that a letter names.
@@ -24,10 +25,6 @@ fn model_of(letter: u8) -> Option<ModelKind>
 pub(crate) fn model_field(s: &[u8]) -> Option<(ModelKind, &[u8])>
     ensures { λ r. ⌜ elim r [ Some x ↦ Model-field (now (s .entry)) (x .0) (now (x .1)) | None ↦ ((m : ModelKind) (more : List ℕ) → Model-field (now (s .entry)) m more → ⊥) ] ⌝ }
 {
-    let (space, rest) = s.split_first()?;
-    if *space != b' ' {
-        return None;
-    }
-    let (letter, after) = rest.split_first()?;
+    let (letter, after) = after_space(s)?.split_first()?;
     Some((model_of(*letter)?, after))
 }

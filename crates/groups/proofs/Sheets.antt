@@ -15,7 +15,8 @@ use Rattle.std.proofs.shelf.Ways.{tells}
 use Rattle.vocabulary.specs.declared.refusal.Refusal.the-variants.{OutOfRange, BadSheet}
 use Rattle.rules.specs.Sets.{has, inside}
 use Rattle.rules.specs.Refusals.{try, unknown}
-use Rattle.rules.specs.Sheets.{on, Named, naming-refusal, sheet-refusal}
+use Rattle.rules.specs.Lists.{on, Named}
+use Rattle.rules.specs.Sheets.{naming-refusal, sheet-refusal}
 
 -- after i numbers, those before are named and none of them was turned down
 pub record Naming (n : ℕ) (sheet : List ℕ) (i S : ℕ) : Type 0 where

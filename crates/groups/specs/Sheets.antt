@@ -8,7 +8,8 @@ use Rattle.std.specs.declared.result.Result.the-variants.{Ok, Err}
 use Rattle.vocabulary.specs.declared.refusal.Refusal.{Refusal}
 use Rattle.vocabulary.specs.declared.standing.Standing.{Standing}
 use Rattle.rules.specs.Links.{Links}
-use Rattle.rules.specs.Sheets.{Named, sheet-refusal}
+use Rattle.rules.specs.Lists.{Named}
+use Rattle.rules.specs.Sheets.{sheet-refusal}
 use Rattle.rules.specs.Models.{Meaning}
 use Rattle.rules.specs.Standings.{Stands-only}
 use Rattle.sets.specs.declared.member_set.MemberSet.{MemberSet}

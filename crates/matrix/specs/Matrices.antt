@@ -15,6 +15,10 @@ members-of m = m .n
 abbrev pub links-of : Matrix → Links
 links-of m = adjacent (m .rows)
 
+-- the most links that it holds
+abbrev pub room : ℕ
+room = 2016
+
 -- two members that are not linked leave room for their link
 abbrev pub Never-full : Type 0
-Never-full = (n a b : ℕ) (l : Links) → Lawful-links n l → T (inside n a) → T (inside n b) → (a ≡ b → ⊥) → l a b ≡ false → link-count n l < 2016
+Never-full = (n a b : ℕ) (l : Links) → Lawful-links n l → T (inside n a) → T (inside n b) → (a ≡ b → ⊥) → l a b ≡ false → link-count n l < room

@@ -4,7 +4,6 @@ use crate::plain::Plain;
 use crate::robust::Robust;
 use crate::vertex_triangle::VertexTriangle;
 
-// The meaning of this type is defined by its variants, and its maker's contract names the meaning: so each has a file of its own.
 mod answering;
 mod making;
 

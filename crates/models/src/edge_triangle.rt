@@ -3,10 +3,9 @@ use groups::model::Model;
 use network::graph::Graph;
 use sets::member_set::MemberSet;
 
-// The maker stands in a file of its own: its contract names the meaning that this file gives to the model.
 mod making;
 
-// The edge triangle model: everybody fits, and two pair when they share a member of the set, linked or not. So every link lies in a triangle.
+// The edge triangle model: each member fits, and two pair when they share a member of the set, linked or not. So every link of a group lies in a triangle.
 #[derive(Clone, Copy)]
 pub struct EdgeTriangle;
 

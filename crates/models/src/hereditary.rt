@@ -4,10 +4,9 @@ use groups::model::Model;
 use network::graph::Graph;
 use sets::member_set::MemberSet;
 
-// The maker stands in a file of its own: its contract names the meaning that this file gives to the model.
 mod making;
 
-// The hereditary model, whose groups stay 2-clubs whoever leaves, up to t members: everybody fits, and two pair when linked or when they share more than t members of the set.
+// The hereditary model, whose groups stay 2-clubs whoever leaves, up to t members: each member fits, and two pair when linked or when they share more than t members of the set.
 #[derive(Clone, Copy)]
 pub struct Hereditary {
     t: u32,

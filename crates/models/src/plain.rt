@@ -3,10 +3,9 @@ use groups::model::Model;
 use network::graph::Graph;
 use sets::member_set::MemberSet;
 
-// The maker stands in a file of its own: its contract names the meaning that this file gives to the model.
 mod making;
 
-// The plain model, whose groups are the 2-clubs: everybody fits, and two pair when linked or when they share a member of the set.
+// The plain model, whose groups are the 2-clubs: each member fits, and two pair when linked or when they share a member of the set.
 #[derive(Clone, Copy)]
 pub struct Plain;
 

@@ -4,10 +4,9 @@ use groups::model::Model;
 use network::graph::Graph;
 use sets::member_set::MemberSet;
 
-// The maker stands in a file of its own: its contract names the meaning that this file gives to the model.
 mod making;
 
-// The robust model: everybody fits, and two pair when t paths of at most two links join them that share nothing but their ends. A link is one such path, each shared member another.
+// The robust model: each member fits, and two pair when t paths of at most two links join them that share nothing but their ends. A link is one such path, each shared member another.
 #[derive(Clone, Copy)]
 pub struct Robust {
     t: u32,
@@ -26,6 +25,6 @@ pub impl Model for Robust as RobustModel {
             return false;
         }
         let shared = graph.shared(a, b, set);
-        graph.linked(a, b) && shared >= self.t - 1 || shared >= self.t
+        (graph.linked(a, b) && shared >= self.t - 1) || shared >= self.t
     }
 }

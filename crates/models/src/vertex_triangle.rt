@@ -8,7 +8,6 @@ use network::graph::Graph;
 use sets::member_set::MemberSet;
 use sets::members::MembersIterator;
 
-// The maker stands in a file of its own: its contract names the meaning that this file gives to the model.
 mod making;
 
 // The vertex triangle model: a member fits when it lies in a triangle of the set, and two pair as in plain.

@@ -10,17 +10,21 @@ use lib.Bits.{bitOr}
 use Rattle.std.proofs.shelf.Tests.{cases-eq, eq-eqb}
 use Rattle.std.proofs.shelf.Ways.{tells}
 use Rattle.vocabulary.specs.declared.standing.Standing.the-variants as standing
+use Rattle.vocabulary.specs.declared.model_kind.ModelKind.{ModelKind}
 use Rattle.rules.specs.Sets.{has, inside, Set-of}
 use Rattle.rules.specs.Links.{Links, Both-ways, Not-itself, Only-members}
-use Rattle.rules.specs.Sheets.{on, Named, no-numbers}
+use Rattle.rules.specs.Lists.{on, Named}
+use Rattle.rules.specs.Sheets.{no-numbers}
 use Rattle.rules.specs.Models.{Meaning, Group}
 use Rattle.rules.specs.Standings.{First-apart, Stands}
-use Rattle.rules.specs.Worked.{Small-network, links-among, Of-those, Lawful, Group-in, Are-group, Are-no-group, No-group, Stand-only}
+use Rattle.rules.specs.Kinds.{in-range, rule}
+use Rattle.rules.specs.Worked.{Small-network, links-among, Of-those, Lawful, Is-no-group, Are-group, Are-no-group, No-group, Stand-only}
 use Rattle.rules.proofs.Tests.{passes, fails, and-left, and-right, and-both, or-cases}
 use Rattle.rules.proofs.Digits.{has-one, has-or, nobody}
 use Rattle.rules.proofs.Members.{same-members, inside-from, inside-to, inside-of, set-word}
 use Rattle.rules.proofs.Links.{linking-both, linking-itself, linking-only}
 use Rattle.rules.proofs.Standings.{one-standing}
+use Rattle.rules.proofs.Agreement.{agrees}
 
 -- ---- many tests; a failed one ends them
 
@@ -215,48 +219,62 @@ module _ (n : ℕ) (l : Links) (m : Meaning) (S : ℕ) where
 
 -- ---- what is known of a small network
 
-module _ (net : Small-network) (m : Meaning) where
+module _ (net : Small-network) (k : ModelKind) (t : ℕ) where
   abbrev n : ℕ
   n = net .members
 
   abbrev l : Links
   l = links-among (net .links)
 
+  abbrev m : Meaning
+  m = rule k t
+
+  module _ (L : Lawful net) where
+    -- a set with a member in which not all belong
+    is-no-group : (S a : ℕ) → Set-of n S → T (has S a) → T (in-range k t) → T (not (all-belong n l m S)) → Is-no-group net k t S
+    is-no-group S a members i ok fails =
+        let none : Group n l m S → ⊥ = λ g. T-not (all-belong n l m S) fails (group-to n l m S g) in
+        (none, λ p. none (agrees k t ok n l S a L members i .1 p))
+
+    module _ (list : List ℕ) where
+      abbrev list-tests : Bool → List Bool
+      list-tests last = leb n 64 ∷ all-inside n list ∷ not (no-numbers list) ∷ in-range k t ∷ last ∷ []
+
+      pub are-group : T (all (list-tests (all-belong n l m (word-of list)))) → Are-group net k t list
+      are-group passed =
+          let q = all-pass (list-tests (all-belong n l m (word-of list))) passed in
+          let few = q .0 in
+          let i = q .1 .0 in
+          let some = word-some n few list i (q .1 .1 .0) in
+          let members = word-members n few list i in
+          let g = group-from n l m (word-of list) members some (q .1 .1 .1 .1 .0) in
+          of-those n few list i (g, agrees k t (q .1 .1 .1 .0) n l (word-of list) (some .0) L members (some .1) .0 g)
+
+      pub are-no-group : T (all (list-tests (not (all-belong n l m (word-of list))))) → Are-no-group net k t list
+      are-no-group passed =
+          let q = all-pass (list-tests (not (all-belong n l m (word-of list)))) passed in
+          let few = q .0 in
+          let i = q .1 .0 in
+          let some = word-some n few list i (q .1 .1 .0) in
+          of-those n few list i (is-no-group (word-of list) (some .0) (word-members n few list i) (some .1) (q .1 .1 .1 .0) (q .1 .1 .1 .1 .0))
+
+    pub no-group : T (in-range k t) → T (every (λ S. not (all-belong n l m S)) (2 ^ n - 1)) → No-group net k t
+    no-group ok passed S a members i =
+        let small = set-word n S members in
+        is-no-group S a members i ok (every-at (λ R. not (all-belong n l m R)) (2 ^ n - 1) passed S (inside-of (2 ^ n - 1) S (above S i) (omega arith)))
+      where
+        above : (S : ℕ) → T (has S a) → 1 ≤ S
+        above zero i = absurd (fails (nobody a) i)
+        above (suc S) i = omega arith
+
   module _ (list : List ℕ) where
-    abbrev group-tests : List Bool
-    group-tests = leb n 64 ∷ all-inside n list ∷ not (no-numbers list) ∷ all-belong n l m (word-of list) ∷ []
-
-    pub are-group : T (all group-tests) → Are-group net m list
-    are-group t =
-        let q = all-pass group-tests t in
-        let few = q .0 in
-        let i = q .1 .0 in
-        of-those n few list i (group-from n l m (word-of list) (word-members n few list i) (word-some n few list i (q .1 .1 .0)) (q .1 .1 .1 .0))
-
-    abbrev no-group-tests : List Bool
-    no-group-tests = leb n 64 ∷ all-inside n list ∷ not (all-belong n l m (word-of list)) ∷ []
-
-    pub are-no-group : T (all no-group-tests) → Are-no-group net m list
-    are-no-group t =
-        let q = all-pass no-group-tests t in
-        of-those n (q .0) list (q .1 .0) (λ g. T-not (all-belong n l m (word-of list)) (q .1 .1 .0) (group-to n l m (word-of list) g))
-
     abbrev stand-tests : ℕ → ℕ → List Bool
     stand-tests a b = leb n 64 ∷ all-inside n list ∷ all (apart-tests n l m (word-of list) a b) ∷ []
 
-    pub stand-apart : (a b : ℕ) → T (all (stand-tests a b)) → Stand-only net m list (standing.Apart a b)
-    stand-apart a b t =
-        let q = all-pass (stand-tests a b) t in
+    pub stand-apart : (a b : ℕ) → T (all (stand-tests a b)) → Stand-only net k t list (standing.Apart a b)
+    stand-apart a b passed =
+        let q = all-pass (stand-tests a b) passed in
         let few = q .0 in
         let i = q .1 .0 in
         let stands = apart-from n l m (word-of list) (word-members n few list i) a b (q .1 .1 .0) in
         of-those n few list i (record { stands = stands; only = λ other s. one-standing n l m (word-of list) other (standing.Apart a b) s stands })
-
-  pub no-group : T (every (λ S. not (all-belong n l m S)) (2 ^ n - 1)) → No-group net m
-  no-group t S g =
-      let small = set-word n S (g .members) in
-      T-not (all-belong n l m S) (every-at (λ R. not (all-belong n l m R)) (2 ^ n - 1) t S (inside-of (2 ^ n - 1) S (above S g) (omega arith))) (group-to n l m S g)
-    where
-      above : (S : ℕ) → Group-in net m S → 1 ≤ S
-      above zero g = absurd (fails (nobody (g .some .0)) (g .some .1))
-      above (suc S) g = omega arith

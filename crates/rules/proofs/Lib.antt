@@ -9,6 +9,7 @@ pub mod Models
 pub mod Ways
 pub mod Published
 pub mod Robust
+pub mod Agreement
 pub mod Standings
 pub mod Computing
 pub mod Worked

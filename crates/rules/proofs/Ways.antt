@@ -11,7 +11,7 @@ use Rattle.std.specs.declared.option.Option.the-variants.{Some}
 use Rattle.std.proofs.shelf.Tests.{cases-eq, eq-eqb}
 use Rattle.rules.specs.Sets.{has}
 use Rattle.rules.specs.Links.{Links, Lawful-links}
-use Rattle.rules.specs.Sheets.{on}
+use Rattle.rules.specs.Lists.{on}
 use Rattle.rules.specs.Paths.{Path-in, path-length, Apart}
 use Rattle.rules.specs.Published.{Two-club}
 use Rattle.rules.proofs.Tests.{passes, fails, or-left, or-right, or-cases}

@@ -2,6 +2,7 @@ pub mod Sets
 pub mod Order
 pub mod Links
 pub mod Refusals
+pub mod Lists
 pub mod Sheets
 pub mod Models
 pub mod Standings

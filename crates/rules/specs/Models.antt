@@ -36,22 +36,22 @@ pub record Group (n : ℕ) (l : Links) (m : Meaning) (S : ℕ) : Type 0 where
   pub all-fit : All-fit l m S
   pub all-pair : All-pair l m S
 
--- some member of S is linked to a, and a third to both
+-- some member of S is linked to a, and another member of S to both
 abbrev pub in-triangle : Links → ℕ → ℕ → Bool
 in-triangle l S a = leb 1 (tally (λ b. has S b && (l a b && leb 1 (shared l a b S))) 64)
 
--- two pair when linked, or when they share at least one member of the set; everybody fits
+-- two pair when linked, or when they share at least one member of the set; each member fits
 abbrev pub plain : Meaning
 plain = record { fits = λ l S a. has S a; pairs = λ l S a b. two-of S a b && (l a b || leb 1 (shared l a b S)) }
 
--- two pair when linked and they share at least t - 1, or when they share at least t; everybody fits
+-- two pair when linked and they share at least t - 1, or when they share at least t; each member fits
 abbrev pub robust : ℕ → Meaning
 robust t = record {
   fits = λ l S a. has S a;
   pairs = λ l S a b. two-of S a b && ((l a b && leb (t - 1) (shared l a b S)) || leb t (shared l a b S));
 }
 
--- two pair when linked, or when they share at least t + 1; everybody fits
+-- two pair when linked, or when they share at least t + 1; each member fits
 abbrev pub hereditary : ℕ → Meaning
 hereditary t = record { fits = λ l S a. has S a; pairs = λ l S a b. two-of S a b && (l a b || leb (t + 1) (shared l a b S)) }
 
@@ -59,6 +59,6 @@ hereditary t = record { fits = λ l S a. has S a; pairs = λ l S a b. two-of S a
 abbrev pub vertex-triangle : Meaning
 vertex-triangle = record { fits = λ l S a. has S a && in-triangle l S a; pairs = plain .pairs }
 
--- two pair when they share at least one member, linked or not; everybody fits
+-- two pair when they share at least one member, linked or not; each member fits
 abbrev pub edge-triangle : Meaning
 edge-triangle = record { fits = λ l S a. has S a; pairs = λ l S a b. two-of S a b && leb 1 (shared l a b S) }

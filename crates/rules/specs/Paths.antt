@@ -10,7 +10,7 @@ use Rattle.std.specs.declared.option.Option.the-variants.{Some, None}
 use Rattle.std.specs.shelf.Lists.{All}
 use Rattle.rules.specs.Sets.{has}
 use Rattle.rules.specs.Links.{Links}
-use Rattle.rules.specs.Sheets.{on}
+use Rattle.rules.specs.Lists.{on}
 
 abbrev pub first : List ℕ → Option ℕ
 first [] = None

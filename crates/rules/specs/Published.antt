@@ -22,7 +22,7 @@ Robust-club t l S = (a b : ℕ) → T (has S a) → T (has S b) → (a ≡ b →
 abbrev pub Hereditary-club : ℕ → Links → ℕ → Type 0
 Hereditary-club t l S = (U R : ℕ) → Within U S → size U ≤ t → Remains S U R → Two-club l R
 
--- a, b and c are members of S, every two of them linked
+-- a, b and c are members of S, every two of them linked; they differ, since nobody is linked to itself
 pub record Triangle (l : Links) (S a b c : ℕ) : Type 0 where
   pub one : T (has S a)
   pub two : T (has S b)

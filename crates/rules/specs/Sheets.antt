@@ -1,24 +1,13 @@
 -- A sheet: a list of member numbers in any order. Assumes nothing.
-use mathlib.Core.Path.{_≡_}
-use mathlib.Core.Bool.{Bool, true, false, _||_}
+use mathlib.Core.Bool.{Bool, true, false}
 use mathlib.Core.List.{List, [], _∷_}
 use Prim.Native.Nat.{ℕ}
-use lib.Dec.{eqb}
 use Rattle.std.specs.declared.option.Option.{Option}
 use Rattle.std.specs.declared.option.Option.the-variants.{None}
 use Rattle.vocabulary.specs.declared.refusal.Refusal.{Refusal}
 use Rattle.vocabulary.specs.declared.refusal.Refusal.the-variants.{OutOfRange, BadSheet}
-use Rattle.rules.specs.Sets.{has}
+use Rattle.rules.specs.Lists.{on}
 use Rattle.rules.specs.Refusals.{try, unknown}
-
--- a stands on the list
-abbrev pub on : List ℕ → ℕ → Bool
-on [] a = false
-on (x ∷ xs) a = eqb x a || on xs a
-
--- S is the set of those on the list
-abbrev pub Named : List ℕ → ℕ → Type 0
-Named sheet S = (a : ℕ) → has S a ≡ on sheet a
 
 abbrev pub no-numbers : List ℕ → Bool
 no-numbers [] = true

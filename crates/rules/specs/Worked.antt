@@ -1,12 +1,17 @@
 -- Small networks with what is known of them. Assumes nothing.
 use mathlib.Core.List.{List, [], _∷_}
 use Prim.Native.Nat.{ℕ}
+use lib.Dec.{T}
 use Rattle.vocabulary.specs.declared.standing.Standing.{Standing}
 use Rattle.vocabulary.specs.declared.standing.Standing.the-variants as standing
+use Rattle.vocabulary.specs.declared.model_kind.ModelKind.{ModelKind}
+use Rattle.vocabulary.specs.declared.model_kind.ModelKind.the-variants as kind
+use Rattle.rules.specs.Sets.{has, Set-of}
 use Rattle.rules.specs.Links.{Links, no-links, linking, Lawful-links}
-use Rattle.rules.specs.Sheets.{Named}
-use Rattle.rules.specs.Models.{Meaning, Group, plain, robust, hereditary, vertex-triangle, edge-triangle}
+use Rattle.rules.specs.Lists.{Named}
+use Rattle.rules.specs.Models.{Group}
 use Rattle.rules.specs.Standings.{Stands-only}
+use Rattle.rules.specs.Kinds.{rule, published}
 
 -- the links that a list names, each by its two ends
 abbrev pub links-among : List (ℕ × ℕ) → Links
@@ -47,35 +52,41 @@ Of-those list P = ((S : ℕ) × Named list S) × ((S : ℕ) → Named list S →
 abbrev pub Lawful : Small-network → Type 0
 Lawful net = Lawful-links (net .members) (links-among (net .links))
 
-abbrev pub Group-in : Small-network → Meaning → ℕ → Type 0
-Group-in net m S = Group (net .members) (links-among (net .links)) m S
+-- S is a group, by the rule of the model and by its published definition
+abbrev pub Is-group : Small-network → ModelKind → ℕ → ℕ → Type 0
+Is-group net k t S = Group (net .members) (links-among (net .links)) (rule k t) S × published k t (links-among (net .links)) S
 
--- those on the list are a group
-abbrev pub Are-group : Small-network → Meaning → List ℕ → Type 0
-Are-group net m list = Of-those list (Group-in net m)
+-- S is no group, by either
+abbrev pub Is-no-group : Small-network → ModelKind → ℕ → ℕ → Type 0
+Is-no-group net k t S = (Group (net .members) (links-among (net .links)) (rule k t) S → ⊥) × (published k t (links-among (net .links)) S → ⊥)
 
--- those on the list are no group
-abbrev pub Are-no-group : Small-network → Meaning → List ℕ → Type 0
-Are-no-group net m list = Of-those list (λ S. Group-in net m S → ⊥)
+abbrev pub Are-group : Small-network → ModelKind → ℕ → List ℕ → Type 0
+Are-group net k t list = Of-those list (Is-group net k t)
 
--- no set is a group
-abbrev pub No-group : Small-network → Meaning → Type 0
-No-group net m = (S : ℕ) → Group-in net m S → ⊥
+abbrev pub Are-no-group : Small-network → ModelKind → ℕ → List ℕ → Type 0
+Are-no-group net k t list = Of-those list (Is-no-group net k t)
+
+-- no set with a member is a group
+abbrev pub No-group : Small-network → ModelKind → ℕ → Type 0
+No-group net k t = (S a : ℕ) → Set-of (net .members) S → T (has S a) → Is-no-group net k t S
 
 -- those on the list stand in this way only
-abbrev pub Stand-only : Small-network → Meaning → List ℕ → Standing → Type 0
-Stand-only net m list r = Of-those list (λ S. Stands-only (net .members) (links-among (net .links)) m S r)
+abbrev pub Stand-only : Small-network → ModelKind → ℕ → List ℕ → Standing → Type 0
+Stand-only net k t list r = Of-those list (λ S. Stands-only (net .members) (links-among (net .links)) (rule k t) S r)
 
 pub record Worked-facts : Type 0 where
   pub star-lawful : Lawful star
   pub prism-lawful : Lawful prism
   pub two-rows-lawful : Lawful two-rows
   pub path-lawful : Lawful path
-  pub star-plain : Are-group star plain all-five
-  pub star-no-vertex-triangle : No-group star vertex-triangle
-  pub prism-vertex-triangle : Are-group prism vertex-triangle all-six
-  pub prism-not-edge-triangle : Are-no-group prism edge-triangle all-six
-  pub two-rows-hereditary-2 : Are-group two-rows (hereditary 2) all-six
-  pub two-rows-not-hereditary-3 : Are-no-group two-rows (hereditary 3) all-six
-  pub two-rows-not-robust-2 : Are-no-group two-rows (robust 2) all-six
-  pub path-ends-apart : Stand-only path plain (1 ∷ 3 ∷ []) (standing.Apart 1 3)
+  pub star-plain : Are-group star kind.Plain 0 all-five
+  pub star-no-vertex-triangle : No-group star kind.VertexTriangle 0
+  pub prism-vertex-triangle : Are-group prism kind.VertexTriangle 0 all-six
+  pub prism-not-edge-triangle : Are-no-group prism kind.EdgeTriangle 0 all-six
+  pub prism-side-edge-triangle : Are-group prism kind.EdgeTriangle 0 (1 ∷ 2 ∷ 3 ∷ [])
+  pub prism-side-robust-2 : Are-group prism kind.Robust 2 (1 ∷ 2 ∷ 3 ∷ [])
+  pub prism-side-not-robust-3 : Are-no-group prism kind.Robust 3 (1 ∷ 2 ∷ 3 ∷ [])
+  pub two-rows-hereditary-2 : Are-group two-rows kind.Hereditary 2 all-six
+  pub two-rows-not-hereditary-3 : Are-no-group two-rows kind.Hereditary 3 all-six
+  pub two-rows-not-robust-2 : Are-no-group two-rows kind.Robust 2 all-six
+  pub path-ends-apart : Stand-only path kind.Plain 0 (1 ∷ 3 ∷ []) (standing.Apart 1 3)

@@ -1,4 +1,4 @@
-// The words that the calls are asked and answer in, with one number for each refusal.
+// The names that calls take and answer: models, ways to stand, and refusals with their numbers.
 pub mod model_kind;
 pub mod refusal;
 pub mod standing;

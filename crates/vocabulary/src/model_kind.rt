@@ -1,4 +1,4 @@
-// The models of a group by name. Robust and hereditary ones take a parameter, the others take 0 only.
+// The models of a group by name.
 #[derive(Clone, Copy, Debug, PartialEq, Eq)]
 pub enum ModelKind {
     Plain,

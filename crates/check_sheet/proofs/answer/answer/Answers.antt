@@ -5,7 +5,7 @@ use Rattle.check_sheet.proofs.answer.answer.Needs as need
 pub returns-in-Ok : need.returns-in-Ok
 returns-in-Ok c =
     let made = c .in-Ok .ensures tt in
-    opened (c .args .setup .now) (c .args .command) (c .in-Network .n) (c .in-Network .kind) (c .in-Network .t) (c .in-Ok .made) (c .in-rest .is) (c .in-Network .is) (made .0) (made .1)
+    opened (c .args .setup .now) (c .args .command) (c .in-Network .n) (c .in-Network .model) (c .in-Network .t) (c .in-Ok .made) (c .in-rest .is) (c .in-Network .is) (made .0) (made .1)
 
 pub returns-in-Ok-link : need.returns-in-Ok-link
 returns-in-Ok-link c =

@@ -1,15 +1,11 @@
 -- The digits that were counted are those of the number in front, or there is none.
-use mathlib.Core.Path.{_≡_}
-use mathlib.Core.List.{_∷_}
 use native.Mathlib.Omega.{arith}
 use Rattle.command.proofs.Numbers.{counted-len, field-made, front-digits}
 use Rattle.command.proofs.field.field.Needs as need
 
 pub returns-then-n-eq0 : need.returns-then-n-eq0
 returns-then-n-eq0 c x more p =
-    let line = c .in-Continue-space .ensures tt .cases .0 in
-    let spaced : c .args .s .now ≡ 32 ∷ c .in-Continue-space .rest .now = cc in
-    let few = counted-len _ _ (c .digits-n .result) x more spaced (c .digits-n .ensures) p in
+    let few = counted-len _ _ (c .digits-n .result) x more (c .in-Continue-rest .ensures tt) (c .digits-n .ensures) p in
     omega (arith, few, c .then-n-eq0 .either)
 
 pub value-requires : need.value-requires
@@ -19,7 +15,5 @@ value-requires c κs =
 
 pub returns : need.returns
 returns c =
-    let line = c .in-Continue-space .ensures tt .cases .0 in
-    let spaced : c .args .s .now ≡ 32 ∷ c .in-Continue-space .rest .now = cc in
-    field-made _ _ (c .digits-n .result) _ _ _ spaced (c .digits-n .ensures) (omega arith) (c .if-n-gt-MOST-DIGITS .left)
+    field-made _ _ (c .digits-n .result) _ _ _ (c .in-Continue-rest .ensures tt) (c .digits-n .ensures) (omega arith) (c .if-n-gt-MOST-DIGITS .left)
     (c .split-at .ensures .front) (c .split-at .ensures .back) (c .value .ensures)
