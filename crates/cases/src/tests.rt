@@ -1,8 +1,8 @@
+use any_model::any_model::AnyModel;
+use any_model::any_model::AnyModelModel;
 use groups::standing::check_group;
 use matrix::calls::MatrixNetwork;
 use matrix::matrix::Matrix;
-use models::any_model::AnyModel;
-use models::any_model::AnyModelModel;
 use network::graph::Graph;
 use network::network::Network;
 use sets::member_set::MemberSet;

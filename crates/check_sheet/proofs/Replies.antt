@@ -14,14 +14,14 @@ use Rattle.rules.specs.Lists.{Named}
 use Rattle.rules.specs.Sheets.{sheet-refusal}
 use Rattle.rules.specs.Standings.{Stands-only}
 use Rattle.matrix.specs.Matrices.{members-of, links-of, room}
-use Rattle.models.specs.AnyModels.{meaning-of}
+use Rattle.any_model.specs.AnyModels.{meaning-of}
 use Rattle.command.specs.Reading.{says}
 use Rattle.command.specs.declared.Command.{Command}
 use Rattle.command.specs.declared.Command.the-variants.{Network, Link}
 use Rattle.command.specs.declared.sheet.Sheet.{Sheet}
 use Rattle.check_sheet.specs.declared.setup.Setup.{Setup}
-use Rattle.check_sheet.specs.declared.reply.Reply.{Reply}
-use Rattle.check_sheet.specs.declared.reply.Reply.the-variants.{Done, Judged}
+use Rattle.replies.specs.declared.reply.Reply.{Reply}
+use Rattle.replies.specs.declared.reply.Reply.the-variants.{Done, Judged}
 use Rattle.check_sheet.specs.Setups.{Setup-is, setup-refusal, Begun}
 use Rattle.check_sheet.specs.Answers.{Changed, Judged-sheet, Answered}
 

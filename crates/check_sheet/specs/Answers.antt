@@ -12,11 +12,11 @@ use Rattle.rules.specs.Lists.{Named}
 use Rattle.rules.specs.Sheets.{sheet-refusal}
 use Rattle.rules.specs.Standings.{Stands-only}
 use Rattle.matrix.specs.Matrices.{members-of, links-of, room}
-use Rattle.models.specs.AnyModels.{meaning-of}
+use Rattle.any_model.specs.AnyModels.{meaning-of}
 use Rattle.command.specs.Grammar.{Spelled, network, link, sheet, Written}
 use Rattle.check_sheet.specs.declared.setup.Setup.{Setup}
-use Rattle.check_sheet.specs.declared.reply.Reply.{Reply}
-use Rattle.check_sheet.specs.declared.reply.Reply.the-variants.{Done, Refused, Judged, Unreadable}
+use Rattle.replies.specs.declared.reply.Reply.{Reply}
+use Rattle.replies.specs.declared.reply.Reply.the-variants.{Done, Refused, Judged, Unreadable}
 use Rattle.check_sheet.specs.Setups.{Setup-is, setup-refusal, Begun}
 
 -- there is one, and P is true of it

@@ -4,11 +4,11 @@ use mathlib.Core.List.{List, [], _∷_, _++_}
 use Prim.Native.Nat.{ℕ}
 use Rattle.std.specs.declared.option.Option.{Option}
 use Rattle.std.specs.declared.option.Option.the-variants.{Some, None}
-use Rattle.command.specs.Gathering.{Gathered}
-use Rattle.check_sheet.specs.declared.reply.Reply.{Reply}
+use Rattle.lines.specs.Gathering.{Gathered}
+use Rattle.replies.specs.declared.reply.Reply.{Reply}
 use Rattle.check_sheet.specs.declared.session.Session.{Session}
 use Rattle.check_sheet.specs.Answers.{Replied}
-use Rattle.check_sheet.specs.Summaries.{nothing-yet, noted}
+use Rattle.replies.specs.Summaries.{nothing-yet, noted}
 
 -- no network or model, nothing of a line, no reply
 pub record Fresh (s : Session) : Type 0 where

@@ -13,7 +13,7 @@ use Rattle.rules.specs.Models.{Meaning}
 use Rattle.rules.specs.Published.{Agrees}
 use Rattle.rules.specs.Kinds.{rule, published, parameter-refusal}
 use Rattle.matrix.specs.Matrices.{members-of, links-of}
-use Rattle.models.specs.AnyModels.{meaning-of}
+use Rattle.any_model.specs.AnyModels.{meaning-of}
 use Rattle.check_sheet.specs.declared.setup.Setup.{Setup}
 
 -- the network has n members and the links l, and its groups are those of m

@@ -1,12 +1,12 @@
 ghost use Rattle.command.specs.Reading.{says};
 ghost use Rattle.check_sheet.specs.Answers.{Answered};
-use crate::reply::Reply;
 use crate::setup::Setup;
+use any_model::any_model::AnyModelModel;
 use command::Command;
 use groups::sheet::judge_sheet;
 use matrix::calls::MatrixNetwork;
-use models::any_model::AnyModelModel;
 use network::network::Network;
+use replies::reply::Reply;
 
 // What a command does to the network, and what is replied. Network and model are made once, and before all else.
 pub(crate) fn answer(setup: &mut Option<Setup>, command: Command) -> Reply

@@ -1,17 +1,15 @@
 // Reads a network, a model and sheets from standard input, and says of each sheet how it stands.
 mod answer;
-mod reply;
 mod session;
 mod setup;
-mod summary;
 
-use reply::ReplyDisplay;
+use replies::reply::ReplyDisplay;
+use replies::summary::SummaryDisplay;
 use session::Session;
 use std::io;
 use std::io::BufReader;
 use std::io::Read;
 use std::io::Write;
-use summary::SummaryDisplay;
 
 fn main(rt: LibcRuntime) -> io::Result<()> {
     let mut out = rt.stdout();

@@ -1,15 +1,15 @@
 ghost use mathlib.Core.Path.{_≡_};
 ghost use mathlib.Core.List.{List};
 ghost use Prim.Native.Nat.{ℕ};
-ghost use Rattle.command.specs.Gathering.{Gathered};
+ghost use Rattle.lines.specs.Gathering.{Gathered};
 ghost use Rattle.check_sheet.specs.Answers.{Replied};
 ghost use Rattle.check_sheet.specs.Sessions.{Fresh, Line-answered, Took, Ended};
 use crate::answer::answer;
-use crate::reply::Reply;
 use crate::setup::Setup;
-use crate::summary::Summary;
-use command::LineBuffer;
 use command::parse;
+use lines::line_buffer::LineBuffer;
+use replies::reply::Reply;
+use replies::summary::Summary;
 
 // What stands between two bytes of the input: the network with its model, the line so far and the replies so far.
 #[derive(Drop)]

@@ -1,7 +1,7 @@
 ghost use Rattle.check_sheet.specs.Setups.{Setup-made};
+use any_model::any_model::AnyModel;
 use matrix::calls::MatrixNetwork;
 use matrix::matrix::Matrix;
-use models::any_model::AnyModel;
 use network::network::Network;
 use vocabulary::model_kind::ModelKind;
 use vocabulary::refusal::Refusal;

@@ -1,4 +1,3 @@
 pub mod Grammar
 pub mod Scan
 pub mod Reading
-pub mod Gathering

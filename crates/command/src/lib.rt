@@ -1,7 +1,6 @@
 // A line of console input, read as a command. The line's ending byte is already taken off.
 
 mod field;
-mod line_buffer;
 mod model_letter;
 mod sheet;
 
@@ -11,7 +10,7 @@ ghost use mathlib.Core.List.{_∷_};
 ghost use Rattle.command.specs.Grammar.{Form};
 ghost use Rattle.command.specs.Reading.{Reads, Spells};
 use field::field;
-pub use line_buffer::LineBuffer;
+use lines::LONGEST;
 use model_letter::model_field;
 pub use sheet::Sheet;
 use vocabulary::model_kind::ModelKind;
@@ -22,9 +21,6 @@ pub enum Command {
     Link(u32, u32),
     Sheet(Sheet),
 }
-
-// No line is longer; so a sheet has at most 499 numbers, and its places suffice.
-pub(crate) const LONGEST: usize = 1000;
 
 // What `N` is followed by: a number, a model and the model's parameter.
 fn network_of(fields: &[u8]) -> Option<Command>

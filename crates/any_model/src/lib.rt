@@ -1,0 +1,2 @@
+// One of the models, chosen when the program runs.
+pub mod any_model;
