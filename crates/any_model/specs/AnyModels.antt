@@ -2,11 +2,11 @@
 use Rattle.rules.specs.Models.{Meaning}
 use Rattle.any_model.specs.declared.any_model.AnyModel.{AnyModel}
 use Rattle.any_model.specs.declared.any_model.AnyModel.TheVariants as model
-use Rattle.models.specs.contracts.plain.PlainModel.TheImpl as plain
-use Rattle.models.specs.contracts.robust.RobustModel.TheImpl as robust
-use Rattle.models.specs.contracts.hereditary.HereditaryModel.TheImpl as hereditary
-use Rattle.models.specs.contracts.vertex_triangle.VertexTriangleModel.TheImpl as vertex_triangle
-use Rattle.models.specs.contracts.edge_triangle.EdgeTriangleModel.TheImpl as edge_triangle
+use Rattle.models.specs.contracts.plain.PlainGroupModel.TheImpl as plain
+use Rattle.models.specs.contracts.robust.RobustGroupModel.TheImpl as robust
+use Rattle.models.specs.contracts.hereditary.HereditaryGroupModel.TheImpl as hereditary
+use Rattle.models.specs.contracts.vertex_triangle.VertexTriangleGroupModel.TheImpl as vertex_triangle
+use Rattle.models.specs.contracts.edge_triangle.EdgeTriangleGroupModel.TheImpl as edge_triangle
 
 abbrev pub meaning_of : AnyModel → Meaning
 meaning_of (model.Plain m) = (plain.ghosts).meaning m

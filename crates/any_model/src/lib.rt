@@ -1,2 +1,4 @@
-// One of the models, chosen when the program runs.
+//! One of the models, chosen when the program runs.
+#![tactic(auto)]
+
 pub mod any_model;

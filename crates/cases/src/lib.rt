@@ -1,3 +1,5 @@
-// Worked cases, run as tests.
+//! Worked cases, run as tests.
+#![tactic(auto)]
+
 #[cfg(test)]
 mod tests;

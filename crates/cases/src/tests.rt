@@ -1,4 +1,4 @@
-use any_model::any_model::{AnyModel, AnyModelModel};
+use any_model::any_model::AnyModel;
 use groups::standing::check_group;
 use matrix::matrix::Matrix;
 use network::graph::Graph;

@@ -2,7 +2,6 @@ ghost use Rattle.command.specs.Reading.{says};
 ghost use Rattle.check_sheet.specs.Answers.{Answered};
 
 use crate::setup::Setup;
-use any_model::any_model::AnyModelModel;
 use command::Command;
 use groups::sheet::judge_sheet;
 use network::network::Network;

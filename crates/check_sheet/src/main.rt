@@ -1,4 +1,6 @@
-// Reads a network, a model and sheets from standard input, and says of each sheet how it stands.
+//! Reads a network, a model and sheets from standard input, and says of each sheet how it stands.
+#![tactic(auto)]
+
 mod answer;
 mod session;
 mod setup;

@@ -1,4 +1,5 @@
-// A line of console input, read as a command. The line's ending byte is already taken off.
+//! A line of console input, read as a command. The line's ending byte is already taken off.
+#![tactic(auto)]
 
 mod field;
 mod model_letter;

@@ -1,4 +1,6 @@
-// What a model of groups is, and how a set stands under any model.
+//! What a model of groups is, and how a set stands under any model.
+#![tactic(auto)]
+
 pub mod model;
 pub mod sheet;
 pub mod standing;

@@ -7,7 +7,7 @@ use network::graph::Graph;
 use sets::member_set::MemberSet;
 
 // A model answers two questions about the members of a set; its meaning is these answers.
-pub trait Model {
+pub trait GroupModel {
     ghost meaning: { Self → Meaning };
 
     // Whether the member a fits the set.

@@ -1,7 +1,7 @@
 ghost use Rattle.network.specs.Graphs.{members_of};
 ghost use Rattle.groups.specs.Sheets.{SheetRead, SheetJudged};
 
-use crate::model::Model;
+use crate::model::GroupModel;
 use crate::standing::check_group;
 use network::graph::Graph;
 use network::network::Network;
@@ -32,12 +32,12 @@ pub fn read_sheet(graph: &Graph, sheet: &[u8]) -> Result<MemberSet, Refusal>
 }
 
 // How the sheet's set stands in the network as it is now.
-pub fn judge_sheet<N: Network, M: Model>(
+pub fn judge_sheet<N: Network, M: GroupModel>(
     net: &N,
     model: &M,
     sheet: &[u8],
 ) -> Result<Standing, Refusal>
-    ensures { SheetJudged (N.Network.members net.now) (N.Network.links net.now) (M.Model.meaning model.now) sheet.now result }
+    ensures { SheetJudged (N.Network.members net.now) (N.Network.links net.now) (M.GroupModel.meaning model.now) sheet.now result }
 {
     let graph = Graph::of(net);
     let set = read_sheet(&graph, sheet)?;

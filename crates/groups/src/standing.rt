@@ -1,14 +1,14 @@
 ghost use Rattle.rules.specs.Standings.{FirstLoose, FirstUnpaired, StandsOnly};
 ghost use Rattle.network.specs.Graphs.{members_of, links_of};
 
-use crate::model::Model;
+use crate::model::GroupModel;
 use network::graph::Graph;
 use sets::member_set::MemberSet;
 use vocabulary::standing::Standing;
 
 // The smallest member of the set that does not fit it.
-pub fn first_loose<M: Model>(model: &M, graph: &Graph, set: MemberSet) -> Option<u32>
-    ensures { FirstLoose (links_of graph.now) (M.Model.meaning model.now) set.word result }
+pub fn first_loose<M: GroupModel>(model: &M, graph: &Graph, set: MemberSet) -> Option<u32>
+    ensures { FirstLoose (links_of graph.now) (M.GroupModel.meaning model.now) set.word result }
 {
     for a in set.members() {
         if !model.fits(graph, set, a) {
@@ -19,8 +19,8 @@ pub fn first_loose<M: Model>(model: &M, graph: &Graph, set: MemberSet) -> Option
 }
 
 // The smallest member of the set, then the smallest above it, that do not pair in the set.
-pub fn first_unpaired<M: Model>(model: &M, graph: &Graph, set: MemberSet) -> Option<(u32, u32)>
-    ensures { FirstUnpaired (links_of graph.now) (M.Model.meaning model.now) set.word result }
+pub fn first_unpaired<M: GroupModel>(model: &M, graph: &Graph, set: MemberSet) -> Option<(u32, u32)>
+    ensures { FirstUnpaired (links_of graph.now) (M.GroupModel.meaning model.now) set.word result }
 {
     'search: {
         for a in set.members() {
@@ -35,8 +35,8 @@ pub fn first_unpaired<M: Model>(model: &M, graph: &Graph, set: MemberSet) -> Opt
 }
 
 // How the set stands in the network under the model: a group of it, or the first thing that is wrong.
-pub fn check_group<M: Model>(model: &M, graph: &Graph, set: MemberSet) -> Standing
-    ensures { StandsOnly (members_of graph.now) (links_of graph.now) (M.Model.meaning model.now) set.word result }
+pub fn check_group<M: GroupModel>(model: &M, graph: &Graph, set: MemberSet) -> Standing
+    ensures { StandsOnly (members_of graph.now) (links_of graph.now) (M.GroupModel.meaning model.now) set.word result }
 {
     if set.is_empty() {
         return Standing::Empty;

@@ -1,4 +1,6 @@
-// A line of input, gathered byte by byte.
+//! A line of input, gathered byte by byte.
+#![tactic(auto)]
+
 pub mod line_buffer;
 
 // No readable line is longer.

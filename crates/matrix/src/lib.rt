@@ -1,3 +1,5 @@
-// The matrix, a kind of network with room for every link that 64 members can have.
+//! The matrix, a kind of network with room for every link that 64 members can have.
+#![tactic(auto)]
+
 pub mod calls;
 pub mod matrix;

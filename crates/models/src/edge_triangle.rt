@@ -1,7 +1,7 @@
 ghost use Rattle.rules.specs.Models.{edge_triangle};
 ghost use Rattle.rules.proofs.Models.{edge_triangle_lawful};
 
-use groups::model::Model;
+use groups::model::GroupModel;
 use network::graph::Graph;
 use sets::member_set::MemberSet;
 
@@ -11,7 +11,7 @@ mod making;
 #[derive(Clone, Copy)]
 pub struct EdgeTriangle;
 
-pub impl Model for EdgeTriangle as EdgeTriangleModel {
+impl GroupModel for EdgeTriangle {
     ghost meaning = { λ _. edge_triangle };
 
     ghost lawful = { λ m. edge_triangle_lawful };

@@ -2,7 +2,7 @@ ghost use Rattle.std.specs.Prelude.{◌≤◌};
 ghost use Rattle.rules.specs.Models.{hereditary};
 ghost use Rattle.rules.proofs.Models.{hereditary_lawful};
 
-use groups::model::Model;
+use groups::model::GroupModel;
 use network::graph::Graph;
 use sets::member_set::MemberSet;
 
@@ -15,7 +15,7 @@ pub struct Hereditary {
     ghost few: { t ≤ 63 },
 }
 
-pub impl Model for Hereditary as HereditaryModel {
+impl GroupModel for Hereditary {
     ghost meaning = { λ m. hereditary m.t };
 
     ghost lawful = { λ m. hereditary_lawful m.t };

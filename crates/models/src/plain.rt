@@ -1,7 +1,7 @@
 ghost use Rattle.rules.specs.Models.{plain};
 ghost use Rattle.rules.proofs.Models.{plain_lawful};
 
-use groups::model::Model;
+use groups::model::GroupModel;
 use network::graph::Graph;
 use sets::member_set::MemberSet;
 
@@ -11,7 +11,7 @@ mod making;
 #[derive(Clone, Copy)]
 pub struct Plain;
 
-pub impl Model for Plain as PlainModel {
+impl GroupModel for Plain {
     ghost meaning = { λ _. plain };
 
     ghost lawful = { λ m. plain_lawful };

@@ -2,7 +2,7 @@ ghost use Rattle.std.specs.Prelude.{◌≤◌};
 ghost use Rattle.rules.specs.Models.{robust};
 ghost use Rattle.rules.proofs.Models.{robust_lawful};
 
-use groups::model::Model;
+use groups::model::GroupModel;
 use network::graph::Graph;
 use sets::member_set::MemberSet;
 
@@ -15,7 +15,7 @@ pub struct Robust {
     ghost some: { 1 ≤ t },
 }
 
-pub impl Model for Robust as RobustModel {
+impl GroupModel for Robust {
     ghost meaning = { λ m. robust m.t };
 
     ghost lawful = { λ m. robust_lawful m.t };

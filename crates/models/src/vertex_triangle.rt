@@ -4,7 +4,7 @@ ghost use Rattle.network.specs.Graphs.{links_of};
 ghost use Rattle.rules.proofs.Models.{vertex_triangle_lawful};
 
 use crate::plain::Plain;
-use groups::model::Model;
+use groups::model::GroupModel;
 use network::graph::Graph;
 use sets::member_set::MemberSet;
 
@@ -14,7 +14,7 @@ mod making;
 #[derive(Clone, Copy)]
 pub struct VertexTriangle;
 
-pub impl Model for VertexTriangle as VertexTriangleModel {
+impl GroupModel for VertexTriangle {
     ghost meaning = { λ _. vertex_triangle };
 
     ghost lawful = { λ m. vertex_triangle_lawful };

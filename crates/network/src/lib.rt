@@ -1,4 +1,6 @@
-// Networks by their links, and the plain value that models read them from.
+//! Networks by their links, and the plain value that models read them from.
+#![tactic(auto)]
+
 pub mod ends;
 pub mod graph;
 pub mod limit;

@@ -1,3 +1,5 @@
-// What is replied to a line about a sheet, and how often each kind of reply was given.
+//! What is replied to a line about a sheet, and how often each kind of reply was given.
+#![tactic(auto)]
+
 pub mod reply;
 pub mod summary;

@@ -1,6 +1,6 @@
 -- How many numbers pass a test. Assumes nothing.
 use Rattle.std.proofs.Common.{◌≡◌, ℕ, zero, suc, ◌+◌, ◌/◌, ◌%◌, ◌^◌, ◌<◌, ◌≤◌, Bool, true, false, cond, not, ◌&&◌, ◌||◌, T, eqb, sym, refl, ap, ◌∙◌, ap₂, inl, inr, zero-le, le_trans, le_refl, mod-lt, arith, lit<}
-use native.Mathlib.Nat.{le_suc}
+use native.Mathlib.Nat.{le-suc}
 use lib.Arith.{lt-one}
 use lib.Count.{ones, ones_step}
 use Rattle.std.proofs.lemmas.Bool.{cases_eq, eq-eqb, ne_eqb}
@@ -12,14 +12,14 @@ use Rattle.rules.proofs.Digits.{has_first, has_next, half_lt}
 pub tally_same : (p q : ℕ → Bool) (n : ℕ) → ((k : ℕ) → k < n → p (suc k) ≡ q (suc k)) → tally p n ≡ tally q n
 unfolding tally
 tally_same p q zero e = refl
-tally_same p q (suc n) e = ap₂ (λ (b : Bool) (x : ℕ). cond b 1 0 + x) (e n (le_refl (suc n))) (tally_same p q n (λ k h. e k (le_trans h (le_suc n))))
+tally_same p q (suc n) e = ap₂ (λ (b : Bool) (x : ℕ). cond b 1 0 + x) (e n (le_refl (suc n))) (tally_same p q n (λ k h. e k (le_trans h (le-suc n))))
 
 pub tally_mono : (p q : ℕ → Bool) (n : ℕ) → ((k : ℕ) → k < n → T (p (suc k)) → T (q (suc k))) → tally p n ≤ tally q n
 unfolding tally
 tally_mono p q zero f = zero-le
 tally_mono p q (suc n) f =
     let here = one (p (suc n)) (q (suc n)) (f n (le_refl (suc n))) in
-    let rest = tally_mono p q n (λ k h. f k (le_trans h (le_suc n))) in
+    let rest = tally_mono p q n (λ k h. f k (le_trans h (le-suc n))) in
     omega arith
   where
     one : (b c : Bool) → (T b → T c) → cond b 1 0 ≤ cond {A = ℕ} c 1 0

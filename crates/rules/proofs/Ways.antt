@@ -1,6 +1,6 @@
 -- Paths of at most two links: the link itself, or by way of one member. Assumes nothing.
 use Rattle.std.proofs.Common.{◌≡◌, ℕ, suc, ◌≤◌, T, eqb, ◌⊎◌, List, [], ◌∷◌, length, Some, sym, refl, ap, ◌∙◌, subst, ap₂, inl, inr, zero-le, le_refl, arith, eqb→eq}
-use native.Mathlib.Nat.{le_suc}
+use native.Mathlib.Nat.{le-suc}
 use Rattle.std.proofs.lemmas.Bool.{cases_eq, eq-eqb}
 use Rattle.rules.specs.Sets.{has}
 use Rattle.rules.specs.Links.{Links, LawfulLinks}
@@ -76,7 +76,7 @@ module _ (n : ℕ) (l : Links) (N : LawfulLinks n l) (S a b : ℕ) (i : T (has S
   }
 
   pub way_short : (w : Way) → path_length (path_by a b w) ≤ 2
-  way_short straight = le_suc 1
+  way_short straight = le-suc 1
   way_short (by k) = le_refl 2
 
   -- there is no other path of at most two links

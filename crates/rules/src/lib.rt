@@ -1,1 +1,2 @@
-// The definitions that every promise is built on, and their theorems.
+//! The definitions that every promise is built on, and their theorems.
+#![tactic(auto)]

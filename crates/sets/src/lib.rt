@@ -1,3 +1,5 @@
-// Sets of members.
+//! Sets of members.
+#![tactic(auto)]
+
 pub mod member_set;
 pub mod members;

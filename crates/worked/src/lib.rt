@@ -1,2 +1,4 @@
-// Small networks, with the facts that are proved of them.
+//! Small networks, with the facts that are proved of them.
+#![tactic(auto)]
+
 pub mod example;

@@ -1,12 +1,13 @@
 ghost use Rattle.any_model.specs.AnyModels.{meaning_of};
+ghost use Rattle.any_model.specs.declared.any_model.AnyModel.TheVariants as model;
 ghost use Rattle.rules.proofs.Models.{plain_lawful, robust_lawful, hereditary_lawful, vertex_triangle_lawful, edge_triangle_lawful};
 
 use crate::any_model::AnyModel;
-use groups::model::Model;
+use groups::model::GroupModel;
 use network::graph::Graph;
 use sets::member_set::MemberSet;
 
-pub impl Model for AnyModel as AnyModelModel {
+impl GroupModel for AnyModel {
     ghost meaning = { meaning_of };
 
     ghost lawful = { elim [

@@ -1,5 +1,5 @@
 ghost use Rattle.rules.specs.Kinds.{ModelMade};
-ghost use Rattle.any_model.specs.contracts.any_model.answering.AnyModelModel.TheImpl.{ghosts};
+ghost use Rattle.any_model.specs.contracts.any_model.answering.AnyModelGroupModel.TheImpl.{ghosts};
 
 use crate::any_model::AnyModel;
 use models::edge_triangle::EdgeTriangle;

@@ -1,6 +1,6 @@
 ghost use Rattle.vocabulary.specs.declared.model_kind.ModelKind.TheVariants as kind;
 ghost use Rattle.rules.specs.Kinds.{ModelMade};
-ghost use Rattle.models.specs.contracts.edge_triangle.EdgeTriangleModel.TheImpl.{ghosts};
+ghost use Rattle.models.specs.contracts.edge_triangle.EdgeTriangleGroupModel.TheImpl.{ghosts};
 
 use crate::edge_triangle::EdgeTriangle;
 use vocabulary::refusal::Refusal;

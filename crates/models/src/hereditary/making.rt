@@ -1,6 +1,6 @@
 ghost use Rattle.vocabulary.specs.declared.model_kind.ModelKind.TheVariants as kind;
 ghost use Rattle.rules.specs.Kinds.{ModelMade};
-ghost use Rattle.models.specs.contracts.hereditary.HereditaryModel.TheImpl.{ghosts};
+ghost use Rattle.models.specs.contracts.hereditary.HereditaryGroupModel.TheImpl.{ghosts};
 
 use crate::hereditary::Hereditary;
 use vocabulary::refusal::Refusal;

@@ -1,6 +1,6 @@
 ghost use Rattle.vocabulary.specs.declared.model_kind.ModelKind.TheVariants as kind;
 ghost use Rattle.rules.specs.Kinds.{ModelMade};
-ghost use Rattle.models.specs.contracts.plain.PlainModel.TheImpl.{ghosts};
+ghost use Rattle.models.specs.contracts.plain.PlainGroupModel.TheImpl.{ghosts};
 
 use crate::plain::Plain;
 use vocabulary::refusal::Refusal;

@@ -1,6 +1,6 @@
 ghost use Rattle.vocabulary.specs.declared.model_kind.ModelKind.TheVariants as kind;
 ghost use Rattle.rules.specs.Kinds.{ModelMade};
-ghost use Rattle.models.specs.contracts.robust.RobustModel.TheImpl.{ghosts};
+ghost use Rattle.models.specs.contracts.robust.RobustGroupModel.TheImpl.{ghosts};
 
 use crate::robust::Robust;
 use vocabulary::refusal::Refusal;

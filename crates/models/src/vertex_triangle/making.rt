@@ -1,6 +1,6 @@
 ghost use Rattle.vocabulary.specs.declared.model_kind.ModelKind.TheVariants as kind;
 ghost use Rattle.rules.specs.Kinds.{ModelMade};
-ghost use Rattle.models.specs.contracts.vertex_triangle.VertexTriangleModel.TheImpl.{ghosts};
+ghost use Rattle.models.specs.contracts.vertex_triangle.VertexTriangleGroupModel.TheImpl.{ghosts};
 
 use crate::vertex_triangle::VertexTriangle;
 use vocabulary::refusal::Refusal;

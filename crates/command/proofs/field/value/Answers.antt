@@ -1,6 +1,6 @@
 -- One more digit is ten times the number before it, and the digit; seven digits stay below ten million.
 use Rattle.std.proofs.Common.{◌≡◌, ◌+◌, ◌-◌, ◌*◌, ◌^◌, ◌<◌, ◌≤◌, ap, ◌∙◌, pow-suc, add-one, arith, lit<}
-use native.Mathlib.Nat.{pow_le_pow_right}
+use native.Mathlib.Nat.{pow-le-pow_right}
 use Rattle.std.proofs.lemmas.List.Sums.{fold_more}
 use Rattle.std.proofs.lemmas.List.{take_all}
 use Rattle.std.proofs.ByRecursion.{All-get_or}
@@ -9,7 +9,7 @@ use Rattle.command.proofs.field.value.Goals as goal
 
 -- a power of ten up to the sixth
 few : {i : _} → i ≤ 6 → 10 ^ i ≤ 1000000
-few h = pow_le_pow_right (lit< tt) h
+few h = pow-le-pow_right (lit< tt) h
 
 pub overflow_mul-v : goal.overflow_mul-v
 overflow_mul-v c = omega (arith, c.loop-b.invariant.1, few {i = c.loop-b.b-index} (omega (arith, c.requires.0)))

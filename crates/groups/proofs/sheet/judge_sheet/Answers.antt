@@ -10,7 +10,7 @@ returns g c =
     let n = c.of-graph.ensures.members in
     let l = c.of-graph.ensures.links in
     let read = c.in_ok-set.ensures in
-    let m = g.M.Model.meaning c.args.model.now in
+    let m = g.M.GroupModel.meaning c.args.model.now in
     let S = c.in_ok-set.set.word in (
       ap (λ (k : ℕ). sheet_refusal k c.args.sheet.now) (sym n) ∙ read.0,
       (

@@ -25,14 +25,14 @@ loop-a-preserved g c =
       sweep_step c.args.set.word _ c.loop-a.a-iterator.rest.word c.in-Some.a c.next.new.self.rest.word
           c.loop-a.invariant.2 c.in-Some.ensures.steps.1
           (pairs_above c.args.set.word c.in-Some.a c.into_iter-b-iterator.result.rest.word above
-          (links_of c.args.graph.now) (g.M.Model.meaning c.args.model.now) c.loop-b.b-iterator.rest.word c.loop-b.invariant.2 c.in-None-b.ensures.steps.0),
+          (links_of c.args.graph.now) (g.M.GroupModel.meaning c.args.model.now) c.loop-b.b-iterator.rest.word c.loop-b.invariant.2 c.in-None-b.ensures.steps.0),
     )
 
 pub returns-then-not-pair : goal.returns-then-not-pair
 returns-then-not-pair g c =
     let above = same_set c.into_iter-b-iterator.result.rest.word c.above.result.word (λ y. has c.args.set.word y && ltb c.in-Some.a y) (cc) c.above.ensures in
     first_apart c.args.set.word c.in-Some.a c.into_iter-b-iterator.result.rest.word above
-    (links_of c.args.graph.now) (g.M.Model.meaning c.args.model.now) c.loop-b.b-iterator.rest.word c.loop-b.invariant.2
+    (links_of c.args.graph.now) (g.M.GroupModel.meaning c.args.model.now) c.loop-b.b-iterator.rest.word c.loop-b.invariant.2
     c.loop-a.a-iterator.rest.word c.in-Some-b.b c.loop-a.invariant.2 c.in-Some.ensures.steps.0 c.in-Some-b.ensures.steps.0
     (fails (sym c.pair.ensures ∙ c.if-not-pair.true))
 

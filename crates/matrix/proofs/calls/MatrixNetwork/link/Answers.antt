@@ -7,7 +7,14 @@ invariant_of-self c =
     let m = c.args.self.now in
     let free = sym c.linked.ensures ∙ c.if-linked.false in
     let held = with_link m c.args.a c.args.b c.with.result c.with-2.result (search rules) c.in_ok-check_ends.ensures c.with.ensures c.with-2.ensures free in
-    (m.some, (m.few, (held.kept.both_ways, (held.kept.not_itself, (held.kept.only_members, (held.kept.counted, tt))))))
+    record {
+      some = m.some;
+      few = m.few;
+      both_ways = held.kept.both_ways;
+      not_itself = held.kept.not_itself;
+      only_members = held.kept.only_members;
+      counted = held.kept.counted;
+    }
 
 pub returns : goal.returns
 returns c =

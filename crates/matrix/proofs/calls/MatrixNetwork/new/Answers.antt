@@ -5,7 +5,14 @@ use Rattle.matrix.proofs.calls.MatrixNetwork.new.Goals as goal
 pub invariant_of-result : goal.invariant_of-result
 invariant_of-result c =
     let kept = kept_new c.args.n (replicate 64 c.empty.result) (no_rows c.empty.result c.empty.ensures 64) in
-    (omega arith, (omega arith, (kept.both_ways, (kept.not_itself, (kept.only_members, (kept.counted, tt))))))
+    record {
+      some = omega arith;
+      few = omega arith;
+      both_ways = kept.both_ways;
+      not_itself = kept.not_itself;
+      only_members = kept.only_members;
+      counted = kept.counted;
+    }
 
 pub returns : goal.returns
 returns c = (search rules, refl, no_rows c.empty.result c.empty.ensures 64)

@@ -16,7 +16,14 @@ invariant_of-self c =
     let ends = c.in_ok-check_ends.ensures in
     let linked = sym c.linked.ensures ∙ c.if-not-linked.false in
     let held = without_link m c.args.a c.args.b c.without.result c.without-2.result (search rules) ends c.without.ensures c.without-2.ensures linked in
-    (m.some, (m.few, (held.1.kept.both_ways, (held.1.kept.not_itself, (held.1.kept.only_members, (held.1.kept.counted, tt))))))
+    record {
+      some = m.some;
+      few = m.few;
+      both_ways = held.1.kept.both_ways;
+      not_itself = held.1.kept.not_itself;
+      only_members = held.1.kept.only_members;
+      counted = held.1.kept.counted;
+    }
 
 pub returns : goal.returns
 returns c =

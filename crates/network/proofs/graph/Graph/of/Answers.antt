@@ -20,7 +20,13 @@ invariant_of-result g c =
     let laws = subst (λ (n : ℕ). LawfulLinks n (g.N.Network.links net)) (sym c.n-members.ensures) (g.met.N.Network.lawful net) in
     let i : c.loop-i.i ≡ c.n-members.result = omega arith in
     let same = sym (fill_all (g.N.Network.links net) c.loop-i.rows c.n-members.result laws.only_members (subst (λ (n : ℕ). Filled (g.N.Network.links net) n c.loop-i.rows) i c.loop-i.invariant.1)) in
-    (laws.some, (laws.few, (subst BothWays same laws.both_ways, (subst NotItself same laws.not_itself, (subst (OnlyMembers c.n-members.result) same laws.only_members, tt)))))
+    record {
+      some = laws.some;
+      few = laws.few;
+      both_ways = subst BothWays same laws.both_ways;
+      not_itself = subst NotItself same laws.not_itself;
+      only_members = subst (OnlyMembers c.n-members.result) same laws.only_members;
+    }
 
 pub returns : goal.returns
 returns g c =

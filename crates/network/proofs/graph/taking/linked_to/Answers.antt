@@ -3,7 +3,7 @@ use Rattle.rules.specs.Sets.{has, inside}
 use Rattle.sets.specs.declared.member_set.MemberSet.{MemberSet}
 use Rattle.network.proofs.Gathering.{gather_none, gather_step, gather_all}
 use Rattle.network.proofs.graph.taking.linked_to.Goals as goal
-use Rattle.network.proofs.graph.taking.linked_to.Goals.{then_linked, else_linked}
+use Rattle.network.proofs.graph.taking.linked_to.Goals.{then-linked, else-linked}
 
 pub loop-i-init : goal.loop-i-init
 loop-i-init g c =
@@ -18,8 +18,8 @@ loop-i-preserved g c b =
     let P = g.N.Network.links net c.args.a in
     gather_step P c.loop-i.row.word c.if-linked.row.word c.loop-i.i (omega arith) b (c.loop-i.invariant b)
     (elim c.if-linked.branch [
-      | then_linked w ↦ inl (sym c.linked.ensures ∙ w.if-linked.true, ap (λ (s : MemberSet). has s.word b) w.row-is ∙ w.with-row.ensures b)
-      | else_linked w ↦ inr (sym c.linked.ensures ∙ w.if-linked.false, ap (λ (s : MemberSet). has s.word b) w.row-is)
+      | then-linked w ↦ inl (sym c.linked.ensures ∙ w.if-linked.true, ap (λ (s : MemberSet). has s.word b) w.row-is ∙ w.with-row.ensures b)
+      | else-linked w ↦ inr (sym c.linked.ensures ∙ w.if-linked.false, ap (λ (s : MemberSet). has s.word b) w.row-is)
     ])
 
 pub returns : goal.returns

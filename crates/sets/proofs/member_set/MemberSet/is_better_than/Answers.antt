@@ -4,15 +4,15 @@ use Rattle.rules.specs.Order.{Better}
 use Rattle.rules.proofs.Order.{order_laws, by_size, by_first, not_itself}
 use Rattle.sets.proofs.member_set.MemberSet.is_better_than.Goals as goal
 
-pub returns-then-size-other-size : goal.returns-then-size-other-size
-returns-then-size-other-size c =
+pub returns-then-size-other_size : goal.returns-then-size-other_size
+returns-then-size-other_size c =
     let s = c.args.self.word in
     let t = c.args.other.word in
     let es = c.size-size.ensures.value in
-    let et = c.size-other-size.ensures.value in
+    let et = c.size-other_size.ensures.value in
     record {
-      value = subst (λ (x : ℕ). Tells (ltb c.size-other-size.result x) (Better s t)) (sym es)
-          (subst (λ (x : ℕ). Tells (ltb x (size s)) (Better s t)) (sym et) (by_size s t (λ e. c.if-size-other-size.true (es ∙ e ∙ sym et))));
+      value = subst (λ (x : ℕ). Tells (ltb c.size-other_size.result x) (Better s t)) (sym es)
+          (subst (λ (x : ℕ). Tells (ltb x (size s)) (Better s t)) (sym et) (by_size s t (λ e. c.if-size-other_size.true (es ∙ e ∙ sym et))));
       laws = order_laws;
     }
 
@@ -20,7 +20,7 @@ pub returns-in-Some : goal.returns-in-Some
 returns-in-Some c =
     let s = c.args.self.word in
     let t = c.args.other.word in
-    let same = sym c.size-size.ensures.value ∙ c.if-size-other-size.false ∙ c.size-other-size.ensures.value in
+    let same = sym c.size-size.ensures.value ∙ c.if-size-other_size.false ∙ c.size-other_size.ensures.value in
     let lowest = c.in-Some.ensures in
     record {
       value = subst (λ (b : Bool). Tells b (Better s t)) (sym c.has.ensures.value)
