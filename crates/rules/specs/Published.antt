@@ -1,5 +1,5 @@
 -- The published definitions of the models, and what it is to agree with one. Assumes nothing.
-use Rattle.std.specs.Prelude.{◌≡◌, ℕ, ◌≤◌, T, ◌↔◌, List, ◌≢◌}
+use Rattle.std.specs.Prelude.{ℕ, ◌≤◌, T, ◌↔◌, List, ◌≢◌}
 use Rattle.std.specs.List.{AllByRecursion as All}
 use Rattle.rules.specs.Sets.{has, Within, SetOf, Remains, size}
 use Rattle.rules.specs.Links.{Links, LawfulLinks}
