@@ -3,7 +3,7 @@ use Rattle.std.proofs.Common.{◌≡◌, ℕ, ◌+◌, ◌<◌, ◌≤◌, true,
 use Rattle.std.proofs.lemmas.List.{append-nil, get_or-take, get_or-drop, length-append, length-drop, length-take-le, nil_from_length, take-append-drop}
 use Rattle.std.proofs.lemmas.Bool.{eqb-false, eqb-true}
 use Rattle.std.proofs.ByRecursion.{All-from_get_or}
-use Rattle.std.specs.List.{AllByRecursion as All}
+use Rattle.std.specs.List.{AllByRecursion}
 use Rattle.command.specs.Grammar.{Digit, Numeral, number_written}
 use Rattle.command.specs.Scan.{Stops, Counted, Field}
 
@@ -24,7 +24,7 @@ stops_not [] b bs st e d = no_cons b bs e
 stops_not (c ∷ cs) b bs st e d = let same = same_head c b cs bs e in st (omega arith, omega arith)
 
 -- all digits in front, and what follows them: one cut
-one_cut : (ds es rest more : List ℕ) → All Digit ds → All Digit es → Stops rest → Stops more
+one_cut : (ds es rest more : List ℕ) → AllByRecursion Digit ds → AllByRecursion Digit es → Stops rest → Stops more
     → ds ++ rest ≡ es ++ more → (ds ≡ es) × (rest ≡ more)
 one_cut [] [] rest more p q st su e = (refl, e)
 one_cut [] (y ∷ es) rest more p q st su e = absurd (stops_not rest y (es ++ more) st e q.0)
@@ -47,7 +47,7 @@ one_field line x y rest more p q =
     (p.numeral.value ∙ ap number_written cut.0 ∙ sym q.numeral.value, cut.1)
 
 -- the bytes that were counted are digits, and none follows
-pub front_digits : (xs : List ℕ) (n : ℕ) → Counted xs n → All Digit (take n xs)
+pub front_digits : (xs : List ℕ) (n : ℕ) → Counted xs n → AllByRecursion Digit (take n xs)
 front_digits xs n h =
     All-from_get_or Digit (take n xs) 0 (λ i l.
     let less : i < n = omega (arith, length-take-le n xs h.len) in

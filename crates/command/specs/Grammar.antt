@@ -1,6 +1,6 @@
 -- How a line is written: what each command looks like as bytes. Assumes nothing.
 use Rattle.std.specs.Prelude.{◌≡◌, ℕ, ◌+◌, ◌-◌, ◌*◌, ◌≤◌, List, [], ◌∷◌, ◌++◌, length, fold}
-use Rattle.std.specs.List.{AllByRecursion as All}
+use Rattle.std.specs.List.{AllByRecursion}
 use Rattle.vocabulary.specs.declared.model_kind.ModelKind.{ModelKind}
 use Rattle.vocabulary.specs.declared.model_kind.ModelKind.TheVariants as kind
 
@@ -16,7 +16,7 @@ number_written ds = fold (λ n d. n * 10 + (d - 48)) 0 ds
 pub record Numeral (ds : List ℕ) (x : ℕ) : Type 0 where
   pub some : 1 ≤ length ds
   pub few : length ds ≤ 7
-  pub digits : All Digit ds
+  pub digits : AllByRecursion Digit ds
   pub value : x ≡ number_written ds
 
 -- the letter that names a model: `P`, `R`, `H`, `V` or `E`

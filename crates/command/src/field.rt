@@ -1,5 +1,5 @@
 ghost use Rattle.std.specs.Prelude.{◌≡◌, ℕ, ◌≤◌, List, ◌∷◌, length, Some, None, ◌≢◌};
-ghost use Rattle.std.specs.List.{AllByRecursion as All};
+ghost use Rattle.std.specs.List.{AllByRecursion};
 ghost use Rattle.command.specs.Grammar.{Digit, number_written};
 ghost use Rattle.command.specs.Scan.{Counted, Field};
 
@@ -28,7 +28,7 @@ fn digits(s: &[u8]) -> usize
 
 // The number that the digits write.
 fn value(s: &[u8]) -> u32
-    requires { (length s.now ≤ 7) × (All Digit s.now) }
+    requires { (length s.now ≤ 7) × (AllByRecursion Digit s.now) }
     ensures { result ≡ number_written s.now }
 {
     let mut v = 0;

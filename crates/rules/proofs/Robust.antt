@@ -1,7 +1,7 @@
 -- The groups of the robust model are the published ones: paths that are apart are counted by the members between their ends. Assumes nothing.
 use Rattle.std.proofs.Common.{◌≡◌, ℕ, zero, suc, ◌+◌, ◌-◌, ◌≤◌, Bool, true, false, cond, not, ◌&&◌, ◌||◌, T, eqb, leb, ◌⊎◌, List, [], ◌∷◌, map, length, sym, refl, ap, ◌∙◌, subst, ap₂, inl, inr, zero-le, le_refl, arith, le→leb, eqb→eq, leb→le}
 use lib.Dec.{not_T}
-use Rattle.std.specs.List.{AllByRecursion as All}
+use Rattle.std.specs.List.{AllByRecursion}
 use Rattle.std.proofs.lemmas.List.{length-map}
 use Rattle.rules.specs.Sets.{has, inside, two_of, SetOf, tally}
 use Rattle.rules.specs.Links.{Links, LawfulLinks, shared}
@@ -22,17 +22,17 @@ Unlike v w = v ≡ w → ⊥
 
 abbrev Different : List Way → Type 0
 Different [] = Unit {0}
-Different (w ∷ ws) = All (Unlike w) ws × Different ws
+Different (w ∷ ws) = AllByRecursion (Unlike w) ws × Different ws
 
-all_from : {X : Type 0} (P Q : X → Type 0) → ((x : X) → P x → Q x) → (xs : List X) → All P xs → All Q xs
+all_from : {X : Type 0} (P Q : X → Type 0) → ((x : X) → P x → Q x) → (xs : List X) → AllByRecursion P xs → AllByRecursion Q xs
 all_from P Q f [] p = tt
 all_from P Q f (x ∷ xs) p = (f x p.0, all_from P Q f xs p.1)
 
-all_both : {X : Type 0} (P Q R : X → Type 0) → ((x : X) → P x → Q x → R x) → (xs : List X) → All P xs → All Q xs → All R xs
+all_both : {X : Type 0} (P Q R : X → Type 0) → ((x : X) → P x → Q x → R x) → (xs : List X) → AllByRecursion P xs → AllByRecursion Q xs → AllByRecursion R xs
 all_both P Q R f [] p q = tt
 all_both P Q R f (x ∷ xs) p q = (f x p.0 q.0, all_both P Q R f xs p.1 q.1)
 
-all_map : {X Y : Type 0} (g : X → Y) (P : X → Type 0) (Q : Y → Type 0) → ((x : X) → P x → Q (g x)) → (xs : List X) → All P xs → All Q (map g xs)
+all_map : {X Y : Type 0} (g : X → Y) (P : X → Type 0) (Q : Y → Type 0) → ((x : X) → P x → Q (g x)) → (xs : List X) → AllByRecursion P xs → AllByRecursion Q (map g xs)
 all_map g P Q f [] p = tt
 all_map g P Q f (x ∷ xs) p = (f x p.0, all_map g P Q f xs p.1)
 
@@ -55,14 +55,14 @@ passing_below : (p : ℕ → Bool) (n : ℕ) (w : Way) → Passing p n w → Unl
 passing_below p n straight q e = q
 passing_below p n (by k) (t, h) e = let same : suc n ≡ k = cc in omega arith
 
-choose : (p : ℕ → Bool) (n t : ℕ) → t ≤ tally p n → (ws : List Way) × (length ws ≡ t) × All (Passing p n) ws × Different ws
+choose : (p : ℕ → Bool) (n t : ℕ) → t ≤ tally p n → (ws : List Way) × (length ws ≡ t) × AllByRecursion (Passing p n) ws × Different ws
 unfolding tally
 choose p zero zero h = ([], refl, tt, tt)
 choose p zero (suc t) h = absurd (omega arith)
 choose p (suc n) t h = pick (p (suc n)) refl t h (λ s g. choose p n s g)
   where
-    pick : (b : Bool) → p (suc n) ≡ b → (t : ℕ) → t ≤ cond b 1 0 + tally p n → ((s : ℕ) → s ≤ tally p n → (ws : List Way) × (length ws ≡ s) × All (Passing p n) ws × Different ws)
-        → (ws : List Way) × (length ws ≡ t) × All (Passing p (suc n)) ws × Different ws
+    pick : (b : Bool) → p (suc n) ≡ b → (t : ℕ) → t ≤ cond b 1 0 + tally p n → ((s : ℕ) → s ≤ tally p n → (ws : List Way) × (length ws ≡ s) × AllByRecursion (Passing p n) ws × Different ws)
+        → (ws : List Way) × (length ws ≡ t) × AllByRecursion (Passing p (suc n)) ws × Different ws
     pick false e t h rest = let (ws, q, c, d) = rest t (omega arith) in (ws, q, all_from _ _ (passing_up p n) ws c, d)
     pick true e zero h rest = ([], refl, tt, tt)
     pick true e (suc t) h rest =
@@ -76,7 +76,7 @@ abbrev Allowed : Bool → (ℕ → Bool) → Way → Type 0
 Allowed s p straight = T s
 Allowed s p (by k) = T (p k) × T (inside 64 k)
 
-few_ways : (ws : List Way) (s : Bool) (p : ℕ → Bool) → All (Allowed s p) ws → Different ws → length ws ≤ cond s 1 0 + tally p 64
+few_ways : (ws : List Way) (s : Bool) (p : ℕ → Bool) → AllByRecursion (Allowed s p) ws → Different ws → length ws ≤ cond s 1 0 + tally p 64
 few_ways [] s p a d = zero-le
 few_ways (straight ∷ ws) false p a d = absurd a.0
 few_ways (straight ∷ ws) true p a d = let h = few_ways ws false p (all_both (Unlike straight) (Allowed true p) (Allowed false p) bent ws d.0 a.1) d.1 in omega arith
@@ -96,8 +96,8 @@ few_ways (by k ∷ ws) s p a d =
 -- ---- different ways as paths that are apart, and back
 
 module _ (n : ℕ) (l : Links) (N : LawfulLinks n l) (S a b : ℕ) (i : T (has S a)) (j : T (has S b)) (d : a ≡ b → ⊥) where
-  ways_paths : (ws : List Way) → All (Leads l S a b) ws → Different ws
-      → (ps : List (List ℕ)) × DisjointPaths (length ws) l S a b ps × All (λ p. path_length p ≤ 2) ps
+  ways_paths : (ws : List Way) → AllByRecursion (Leads l S a b) ws → Different ws
+      → (ps : List (List ℕ)) × DisjointPaths (length ws) l S a b ps × AllByRecursion (λ p. path_length p ≤ 2) ps
   ways_paths ws leads different = (
     map (path_by a b) ws,
     record {
@@ -112,15 +112,15 @@ module _ (n : ℕ) (l : Links) (N : LawfulLinks n l) (S a b : ℕ) (i : T (has S
       apart [] u = tt
       apart (w ∷ ws) u = (all_map (path_by a b) (Unlike w) (Apart a b (path_by a b w)) (ways_apart n l N S a b i j d w) ws u.0, apart ws u.1)
 
-  paths_ways : (ps : List (List ℕ)) → All (PathIn l S a b) ps → EveryTwoApart a b ps → All (λ p. path_length p ≤ 2) ps
-      → (ws : List Way) × (ps ≡ map (path_by a b) ws) × All (Leads l S a b) ws × Different ws
+  paths_ways : (ps : List (List ℕ)) → AllByRecursion (PathIn l S a b) ps → EveryTwoApart a b ps → AllByRecursion (λ p. path_length p ≤ 2) ps
+      → (ws : List Way) × (ps ≡ map (path_by a b) ws) × AllByRecursion (Leads l S a b) ws × Different ws
   paths_ways [] paths apart short = ([], refl, tt, tt)
   paths_ways (p ∷ ps) paths apart short =
       let (w, t, e) = path_way n l N S a b i j d p paths.0 short.0 in
       let (ws, same, leads, different) = paths_ways ps paths.1 apart.1 short.1 in
-      (w ∷ ws, ap₂ ◌∷◌ e same, (t, leads), (unlike w e ws (subst (All (Apart a b p)) same apart.0), different))
+      (w ∷ ws, ap₂ ◌∷◌ e same, (t, leads), (unlike w e ws (subst (AllByRecursion (Apart a b p)) same apart.0), different))
     where
-      unlike : (w : Way) → p ≡ path_by a b w → (ws : List Way) → All (Apart a b p) (map (path_by a b) ws) → All (Unlike w) ws
+      unlike : (w : Way) → p ≡ path_by a b w → (ws : List Way) → AllByRecursion (Apart a b p) (map (path_by a b) ws) → AllByRecursion (Unlike w) ws
       unlike w e [] q = tt
       unlike w e (v ∷ ws) q = ((λ f. q.0.0 (e ∙ ap (path_by a b) f)), unlike w e ws q.1)
 
@@ -139,11 +139,11 @@ module _ (n : ℕ) (l : Links) (N : LawfulLinks n l) (S : ℕ) (small : SetOf n 
   pairs_robust pair a b i j d =
       paths (or_cases (l a b && leb (t - 1) (shared l a b S)) (leb t (shared l a b S)) (and_right (two_of S a b) ((l a b && leb (t - 1) (shared l a b S)) || leb t (shared l a b S)) (pair a b i j d)))
     where
-      made : (ws : List Way) → length ws ≡ t → All (Leads l S a b) ws → Different ws → (ps : List (List ℕ)) × DisjointPaths t l S a b ps × All (λ p. path_length p ≤ 2) ps
+      made : (ws : List Way) → length ws ≡ t → AllByRecursion (Leads l S a b) ws → Different ws → (ps : List (List ℕ)) × DisjointPaths t l S a b ps × AllByRecursion (λ p. path_length p ≤ 2) ps
       made ws e leads different =
-          subst (λ (k : ℕ). (ps : List (List ℕ)) × DisjointPaths k l S a b ps × All (λ p. path_length p ≤ 2) ps) e (ways_paths n l N S a b i j d ws leads different)
+          subst (λ (k : ℕ). (ps : List (List ℕ)) × DisjointPaths k l S a b ps × AllByRecursion (λ p. path_length p ≤ 2) ps) e (ways_paths n l N S a b i j d ws leads different)
 
-      paths : T (l a b && leb (t - 1) (shared l a b S)) ⊎ T (leb t (shared l a b S)) → (ps : List (List ℕ)) × DisjointPaths t l S a b ps × All (λ p. path_length p ≤ 2) ps
+      paths : T (l a b && leb (t - 1) (shared l a b S)) ⊎ T (leb t (shared l a b S)) → (ps : List (List ℕ)) × DisjointPaths t l S a b ps × AllByRecursion (λ p. path_length p ≤ 2) ps
       paths (inl q) =
           let (ws, e, c, u) = choose (common l S a b) 64 (t - 1) (leb→le (t - 1) (shared l a b S) (and_right (l a b) (leb (t - 1) (shared l a b S)) q)) in
           made (straight ∷ ws) (omega arith) (and_left (l a b) (leb (t - 1) (shared l a b S)) q, all_from _ _ (passing_leads a b) ws c) (all_from _ _ (passing_bent (common l S a b) 64) ws c, u)

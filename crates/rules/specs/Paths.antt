@@ -1,6 +1,6 @@
 -- Paths inside a set, distance by them, and families of paths that are apart. Assumes nothing.
 use Rattle.std.specs.Prelude.{◌≡◌, ℕ, ◌≤◌, T, ◌⊎◌, List, [], ◌∷◌, length, Some, None, Option, ◌≢◌}
-use Rattle.std.specs.List.{AllByRecursion as All}
+use Rattle.std.specs.List.{AllByRecursion}
 use Rattle.rules.specs.Sets.{has}
 use Rattle.rules.specs.Links.{Links}
 use Rattle.rules.specs.Lists.{on}
@@ -49,10 +49,10 @@ Apart a b p q = (p ≢ q) × ((x : ℕ) → T (on p x) → T (on q x) → (x ≡
 -- every two of the paths from a to b are apart
 abbrev pub EveryTwoApart : ℕ → ℕ → List (List ℕ) → Type 0
 EveryTwoApart a b [] = Unit {0}
-EveryTwoApart a b (p ∷ ps) = All (Apart a b p) ps × EveryTwoApart a b ps
+EveryTwoApart a b (p ∷ ps) = AllByRecursion (Apart a b p) ps × EveryTwoApart a b ps
 
 -- t paths from a to b in S, every two of them apart
 pub record DisjointPaths (t : ℕ) (l : Links) (S a b : ℕ) (ps : List (List ℕ)) : Type 0 where
   pub number : length ps ≡ t
-  pub paths : All (PathIn l S a b) ps
+  pub paths : AllByRecursion (PathIn l S a b) ps
   pub apart : EveryTwoApart a b ps

@@ -1,6 +1,6 @@
 -- The published definitions of the models, and what it is to agree with one. Assumes nothing.
 use Rattle.std.specs.Prelude.{ℕ, ◌≤◌, T, ◌↔◌, List, ◌≢◌}
-use Rattle.std.specs.List.{AllByRecursion as All}
+use Rattle.std.specs.List.{AllByRecursion}
 use Rattle.rules.specs.Sets.{has, Within, SetOf, Remains, size}
 use Rattle.rules.specs.Links.{Links, LawfulLinks}
 use Rattle.rules.specs.Models.{Meaning, Group}
@@ -12,7 +12,7 @@ TwoClub l S = (a b : ℕ) → T (has S a) → T (has S b) → DistanceUpTo 2 l S
 
 -- a t-robust 2-club: every two members are joined inside the set by t paths of at most two links that share nothing but their ends
 abbrev pub RobustClub : ℕ → Links → ℕ → Type 0
-RobustClub t l S = (a b : ℕ) → T (has S a) → T (has S b) → (a ≢ b) → (ps : List (List ℕ)) × DisjointPaths t l S a b ps × All (λ p. path_length p ≤ 2) ps
+RobustClub t l S = (a b : ℕ) → T (has S a) → T (has S b) → (a ≢ b) → (ps : List (List ℕ)) × DisjointPaths t l S a b ps × AllByRecursion (λ p. path_length p ≤ 2) ps
 
 -- a t-hereditary 2-club: whatever set of at most t members leaves, those that remain are a 2-club
 abbrev pub HereditaryClub : ℕ → Links → ℕ → Type 0
