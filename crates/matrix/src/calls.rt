@@ -2,7 +2,7 @@ ghost use Rattle.std.specs.Prelude.{◌≡◌};
 ghost use Rattle.matrix.specs.Matrices.{members_of, links_of, NeverFull};
 ghost use Rattle.rules.proofs.Links.{count_few};
 ghost use Rattle.network.specs.Rows.{adjacent};
-ghost use Rattle.std.proofs.Common.{rules, arith};
+ghost use Rattle.std.proofs.Common.{rules};
 
 use crate::matrix::Matrix;
 use network::ends::check_ends;
@@ -20,7 +20,7 @@ impl Network for Matrix {
 
     ghost links = { links_of };
 
-    ghost lawful = { first_of (Prim.search rules, Prim.grind (arith, Self.row.coded.inj)) };
+    ghost lawful = { Prim.search rules };
 
     ghost held = { λ m. count_few m.n (adjacent m.rows) m.few };
 
