@@ -1,5 +1,4 @@
-//! The models of groups. Each has its maker in a file of its own, `making`: the maker's contract names the meaning that `impl GroupModel` gives,
-//! and a file may not import its own.
+//! The models of groups. Each has its maker in a file of its own, `making`: the maker's contract names the meaning that `impl GroupModel` gives.
 #![tactic(auto)]
 
 pub mod edge_triangle;
