@@ -1,11 +1,19 @@
+ghost use Rattle.rules.specs.Kinds.{ModelMade};
+ghost use Rattle.any_model.specs.AnyModels.{meaning_of};
+ghost use Rattle.any_model.specs.declared.any_model.AnyModel.TheVariants as model;
+ghost use Rattle.rules.proofs.Models.{by_count_lawful, plain_grows, robust_grows, hereditary_grows, edge_triangle_grows, vertex_triangle_lawful};
+
+use groups::model::GroupModel;
 use models::edge_triangle::EdgeTriangle;
 use models::hereditary::Hereditary;
+use models::named_model::NamedModel;
 use models::plain::Plain;
 use models::robust::Robust;
 use models::vertex_triangle::VertexTriangle;
-
-mod answering;
-mod making;
+use network::graph::Graph;
+use sets::member_set::MemberSet;
+use vocabulary::model_kind::ModelKind;
+use vocabulary::refusal::Refusal;
 
 // One of the models, where which one is known only when the program runs.
 #[derive(Clone, Copy)]
@@ -15,4 +23,52 @@ pub enum AnyModel {
     Hereditary(Hereditary),
     VertexTriangle(VertexTriangle),
     EdgeTriangle(EdgeTriangle),
+}
+
+impl AnyModel {
+    // The model of that kind with the parameter t.
+    pub fn new(kind: ModelKind, t: u32) -> Result<AnyModel, Refusal>
+        ensures { ModelMade meaning_of kind t result }
+    {
+        let model = match kind {
+            ModelKind::Plain => AnyModel::Plain(Plain::new(t)?),
+            ModelKind::Robust => AnyModel::Robust(Robust::new(t)?),
+            ModelKind::Hereditary => AnyModel::Hereditary(Hereditary::new(t)?),
+            ModelKind::VertexTriangle => AnyModel::VertexTriangle(VertexTriangle::new(t)?),
+            ModelKind::EdgeTriangle => AnyModel::EdgeTriangle(EdgeTriangle::new(t)?),
+        };
+        Ok(model)
+    }
+}
+
+impl GroupModel for AnyModel {
+    ghost meaning = { meaning_of };
+
+    ghost lawful = { elim [
+      | model.Plain m ↦ by_count_lawful _ plain_grows
+      | model.Robust m ↦ by_count_lawful _ (robust_grows m.t)
+      | model.Hereditary m ↦ by_count_lawful _ (hereditary_grows m.t)
+      | model.VertexTriangle m ↦ vertex_triangle_lawful
+      | model.EdgeTriangle m ↦ by_count_lawful _ edge_triangle_grows
+    ] };
+
+    fn fits(&self, graph: &Graph, set: MemberSet, a: u32) -> bool {
+        match *self {
+            AnyModel::Plain(model) => model.fits(graph, set, a),
+            AnyModel::Robust(model) => model.fits(graph, set, a),
+            AnyModel::Hereditary(model) => model.fits(graph, set, a),
+            AnyModel::VertexTriangle(model) => model.fits(graph, set, a),
+            AnyModel::EdgeTriangle(model) => model.fits(graph, set, a),
+        }
+    }
+
+    fn pair(&self, graph: &Graph, set: MemberSet, a: u32, b: u32) -> bool {
+        match *self {
+            AnyModel::Plain(model) => model.pair(graph, set, a, b),
+            AnyModel::Robust(model) => model.pair(graph, set, a, b),
+            AnyModel::Hereditary(model) => model.pair(graph, set, a, b),
+            AnyModel::VertexTriangle(model) => model.pair(graph, set, a, b),
+            AnyModel::EdgeTriangle(model) => model.pair(graph, set, a, b),
+        }
+    }
 }

@@ -6,11 +6,13 @@ use Rattle.vocabulary.specs.declared.standing.Standing.TheVariants as standing
 use Rattle.rules.specs.Sets.{has, inside, EmptySet, SetOf, Lowest}
 use Rattle.rules.specs.Links.{Links, LawfulLinks}
 use Rattle.rules.specs.Models.{Meaning, LawfulModel, AllFit}
-use Rattle.rules.specs.Standings.{FirstNot, PairsAbove, FirstApart, Stands, StandsOnly}
+use Rattle.std.specs.Prelude.{Option, Some, None, MatchOption}
+use Rattle.rules.specs.Standings.{FirstNot, FirstLoose, PairsAbove, FirstApart, Stands, StandsOnly}
+use Rattle.groups.specs.Searches.{NextApart, FirstAbove}
 use Rattle.rules.proofs.Tests.{as_true, passes, fails, and_left, and_right, and_both}
 use Rattle.rules.proofs.Members.{inside_from, inside_to, inside_of, word_set, some_tells}
 use Rattle.rules.proofs.Standings.{one_standing}
-use Rattle.sets.proofs.Sweeping.{Swept, sweep_earlier, sweep_end}
+use Rattle.sets.proofs.Sweeping.{Swept, sweep_earlier}
 
 -- B has the members of S above a
 module _ (S a B : ℕ) (B_is : (y : ℕ) → has B y ≡ (has S y && ltb a y)) where
@@ -23,21 +25,29 @@ module _ (S a B : ℕ) (B_is : (y : ℕ) → has B y ≡ (has S y && ltb a y)) w
   above_over : (y : ℕ) → T (has B y) → a < y
   above_over y t = ltb-true a y (as_true (ltb a y) (and_right (has S y) (ltb a y) (subst T (B_is y) t)))
 
-  module _ (l : Links) (m : Meaning) (rest : ℕ) (inner : Swept B (λ y. T (m.pairs l S a y)) rest) where
-    pub pairs_above : EmptySet rest → PairsAbove l m S a
-    pairs_above none y t h = sweep_end B _ rest inner none y (above_from y t h)
+  -- what was found among them
+  pub found_above : (l : Links) (m : Meaning) (r : Option ℕ) → MatchOption r ((y : ℕ) → T (has B y) → T (m.pairs l S a y)) (FirstNot B (λ y. T (m.pairs l S a y))) → FirstAbove l m S a r
+  found_above l m None all = λ y t h. all y (above_from y t h)
+  found_above l m (Some b) first = record {
+    member = above_in b first.member;
+    above = above_over b first.member;
+    unpaired = first.fails;
+    next = λ y t h g. first.earlier y (above_from y t h) g;
+  }
 
-    pub first_apart : (left b : ℕ) → Swept S (PairsAbove l m S) left → Lowest left a → Lowest rest b → (T (m.pairs l S a b) → ⊥) → FirstApart l m S a b
-    first_apart left b outer low_a low_b unpaired =
-        let there = inner.within b low_b.member in
-        record {
-          one = outer.within a low_a.member;
-          two = above_in b there;
-          above = above_over b there;
-          unpaired = unpaired;
-          smallest = λ x t h. sweep_earlier S _ left a outer low_a x t h;
-          next = λ y t h g. sweep_earlier B _ rest b inner low_b y (above_from y t h) g;
-        }
+pub found_loose : (l : Links) (m : Meaning) (S : ℕ) (r : Option ℕ) → MatchOption r (AllFit l m S) (FirstNot S (λ a. T (m.fits l S a))) → FirstLoose l m S r
+found_loose l m S None all = all
+found_loose l m S (Some a) first = first
+
+pub first_apart : (l : Links) (m : Meaning) (S rest a b : ℕ) → Swept S (PairsAbove l m S) rest → Lowest rest a → NextApart l m S a b → FirstApart l m S a b
+first_apart l m S rest a b swept low next = record {
+  one = swept.within a low.member;
+  two = next.member;
+  above = next.above;
+  unpaired = next.unpaired;
+  smallest = sweep_earlier S _ rest a swept low;
+  next = next.next;
+}
 
 -- ---- how a set stands; B has the members of S that the network does not
 

@@ -2,5 +2,6 @@
 #![tactic(auto)]
 
 pub mod model;
+pub mod pair_rule;
 pub mod sheet;
 pub mod standing;

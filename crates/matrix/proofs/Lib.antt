@@ -1,1 +1,1 @@
-mod Edits
+mod Counts

@@ -1,81 +1,68 @@
 ghost use Rattle.std.specs.Prelude.{◌≡◌};
-ghost use Rattle.matrix.specs.Matrices.{members_of, links_of, NeverFull};
+ghost use Rattle.matrix.specs.Matrices.{members_of, links_of, room, NeverFull};
 ghost use Rattle.rules.proofs.Links.{count_few};
-ghost use Rattle.network.specs.Rows.{adjacent};
-ghost use Rattle.std.proofs.Common.{rules};
 
 use crate::matrix::Matrix;
 use network::ends::check_ends;
-use network::limit::{AtMost, Limit};
+use network::graph::Graph;
 use network::network::Network;
-use sets::member_set::MemberSet;
 use vocabulary::refusal::Refusal;
 
 impl Network for Matrix {
-    type Room = AtMost<2016>;
+    ghost ROOM = { room };
 
-    const ROOM: AtMost<2016> = AtMost;
+    const ROOM: u32 = 2016;
 
     ghost members = { members_of };
 
     ghost links = { links_of };
 
-    ghost lawful = { Prim.search rules };
+    ghost lawful = { λ m. m.graph.lawful };
 
-    ghost held = { λ m. count_few m.n (adjacent m.rows) m.few };
+    ghost held = { λ m. count_few (members_of m) (links_of m) m.graph.lawful.few };
 
     fn new(n: u32) -> Result<Matrix, Refusal> {
-        if n < 1 || n > 64 {
-            return Err(Refusal::OutOfRange);
-        }
         Ok(Matrix {
-            n,
+            graph: Graph::new(n)?,
             count: 0,
-            rows: [MemberSet::empty(); 64],
         })
     }
 
     fn n(&self) -> u32 {
-        self.n
+        self.graph.n()
     }
 
+    #[tactic(auto, using(crate::proofs::Counts::never_full))]
     fn most_links(&self) -> u32
-        ensures value { result ≡ 2016 }
+        ensures value { result ≡ room }
         ensures never_full { NeverFull }
     {
-        Self::ROOM.get()
+        Self::ROOM
     }
 
     fn linked(&self, a: u32, b: u32) -> bool {
-        if a < 1 || a > 64 {
-            return false;
-        }
-        self.rows[(a - 1) as usize].has(b)
+        self.graph.linked(a, b)
     }
 
     fn link(&mut self, a: u32, b: u32) -> Result<(), Refusal> {
-        check_ends(self.n, a, b)?;
+        check_ends(self.graph.n(), a, b)?;
         if self.linked(a, b) {
             return Err(Refusal::AlreadyLinked);
         }
-        if self.count >= Self::ROOM.get() {
+        if self.count >= Self::ROOM {
             return Err(Refusal::NoRoom);
         }
-        let (i, j) = ((a - 1) as usize, (b - 1) as usize);
-        self.rows[i] = self.rows[i].with(b);
-        self.rows[j] = self.rows[j].with(a);
+        self.graph.connect(a, b)?;
         self.count += 1;
         Ok(())
     }
 
     fn unlink(&mut self, a: u32, b: u32) -> Result<(), Refusal> {
-        check_ends(self.n, a, b)?;
+        check_ends(self.graph.n(), a, b)?;
         if !self.linked(a, b) {
             return Err(Refusal::NotLinked);
         }
-        let (i, j) = ((a - 1) as usize, (b - 1) as usize);
-        self.rows[i] = self.rows[i].without(b);
-        self.rows[j] = self.rows[j].without(a);
+        self.graph.disconnect(a, b)?;
         self.count -= 1;
         Ok(())
     }

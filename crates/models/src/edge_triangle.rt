@@ -1,26 +1,32 @@
-ghost use Rattle.rules.specs.Models.{edge_triangle};
-ghost use Rattle.rules.proofs.Models.{edge_triangle_lawful};
+ghost use Rattle.std.specs.Prelude.{nat_le};
+ghost use Rattle.vocabulary.specs.declared.model_kind.ModelKind.TheVariants as kind;
+ghost use Rattle.rules.proofs.Models.{edge_triangle_grows};
 
-use groups::model::GroupModel;
-use network::graph::Graph;
-use sets::member_set::MemberSet;
+use crate::named_model::NamedModel;
+use crate::parameter::check_parameter;
+use groups::pair_rule::PairRule;
+use vocabulary::model_kind::ModelKind;
+use vocabulary::refusal::Refusal;
 
-mod making;
-
-// The edge triangle model: each member fits, and two pair when they share a member of the set, linked or not. So every link of a group lies in a triangle.
+// The edge triangle model: two members pair when they share a member of the set, linked or not. So every link of a group lies in a triangle.
 #[derive(Clone, Copy)]
 pub struct EdgeTriangle;
 
-impl GroupModel for EdgeTriangle {
-    ghost meaning = { λ _. edge_triangle };
+impl PairRule for EdgeTriangle {
+    ghost enough = { λ rule linked shared. nat_le 1 shared };
 
-    ghost lawful = { λ m. edge_triangle_lawful };
+    ghost grows = { λ rule. edge_triangle_grows };
 
-    fn fits(&self, graph: &Graph, set: MemberSet, a: u32) -> bool {
-        set.has(a)
+    fn enough(&self, linked: bool, shared: u32) -> bool {
+        shared >= 1
     }
+}
 
-    fn pair(&self, graph: &Graph, set: MemberSet, a: u32, b: u32) -> bool {
-        set.has_two(a, b) && graph.shared(a, b, set) >= 1
+impl NamedModel for EdgeTriangle {
+    ghost kind = { kind.EdgeTriangle };
+
+    fn new(t: u32) -> Result<EdgeTriangle, Refusal> {
+        check_parameter(ModelKind::EdgeTriangle, t)?;
+        Ok(EdgeTriangle)
     }
 }

@@ -1,30 +1,35 @@
-ghost use Rattle.std.specs.Prelude.{◌≤◌};
-ghost use Rattle.rules.specs.Models.{hereditary};
-ghost use Rattle.rules.proofs.Models.{hereditary_lawful};
+ghost use Rattle.std.specs.Prelude.{◌+◌, ◌≤◌, ◌||◌, nat_le};
+ghost use Rattle.vocabulary.specs.declared.model_kind.ModelKind.TheVariants as kind;
+ghost use Rattle.rules.proofs.Models.{hereditary_grows};
 
-use groups::model::GroupModel;
-use network::graph::Graph;
-use sets::member_set::MemberSet;
+use crate::named_model::NamedModel;
+use crate::parameter::check_parameter;
+use groups::pair_rule::PairRule;
+use vocabulary::model_kind::ModelKind;
+use vocabulary::refusal::Refusal;
 
-mod making;
-
-// The hereditary model, whose groups stay 2-clubs whoever leaves, up to t members: each member fits, and two pair when linked or when they share more than t members of the set.
+// The hereditary model, whose groups stay 2-clubs whoever leaves, up to t members: two members pair when linked or when they share more than t members of the set.
 #[derive(Clone, Copy)]
 pub struct Hereditary {
     t: u32,
     ghost few: { t ≤ 63 },
 }
 
-impl GroupModel for Hereditary {
-    ghost meaning = { λ m. hereditary m.t };
+impl PairRule for Hereditary {
+    ghost enough = { λ rule linked shared. linked || nat_le (rule.t + 1) shared };
 
-    ghost lawful = { λ m. hereditary_lawful m.t };
+    ghost grows = { λ rule. hereditary_grows rule.t };
 
-    fn fits(&self, graph: &Graph, set: MemberSet, a: u32) -> bool {
-        set.has(a)
+    fn enough(&self, linked: bool, shared: u32) -> bool {
+        linked || shared >= self.t + 1
     }
+}
 
-    fn pair(&self, graph: &Graph, set: MemberSet, a: u32, b: u32) -> bool {
-        set.has_two(a, b) && (graph.linked(a, b) || graph.shared(a, b, set) >= self.t + 1)
+impl NamedModel for Hereditary {
+    ghost kind = { kind.Hereditary };
+
+    fn new(t: u32) -> Result<Hereditary, Refusal> {
+        check_parameter(ModelKind::Hereditary, t)?;
+        Ok(Hereditary { t })
     }
 }

@@ -1,8 +1,10 @@
-//! The models of groups. Each has its maker in a file of its own, `making`: the maker's contract names the meaning that `impl GroupModel` gives.
+//! The models of groups.
 #![tactic(auto)]
 
 pub mod edge_triangle;
 pub mod hereditary;
+pub mod named_model;
+mod parameter;
 pub mod plain;
 pub mod robust;
 pub mod vertex_triangle;

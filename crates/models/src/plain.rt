@@ -1,26 +1,32 @@
-ghost use Rattle.rules.specs.Models.{plain};
-ghost use Rattle.rules.proofs.Models.{plain_lawful};
+ghost use Rattle.std.specs.Prelude.{◌||◌, nat_le};
+ghost use Rattle.vocabulary.specs.declared.model_kind.ModelKind.TheVariants as kind;
+ghost use Rattle.rules.proofs.Models.{plain_grows};
 
-use groups::model::GroupModel;
-use network::graph::Graph;
-use sets::member_set::MemberSet;
+use crate::named_model::NamedModel;
+use crate::parameter::check_parameter;
+use groups::pair_rule::PairRule;
+use vocabulary::model_kind::ModelKind;
+use vocabulary::refusal::Refusal;
 
-mod making;
-
-// The plain model, whose groups are the 2-clubs: each member fits, and two pair when linked or when they share a member of the set.
+// The plain model, whose groups are the 2-clubs: two members pair when linked or when they share a member of the set.
 #[derive(Clone, Copy)]
 pub struct Plain;
 
-impl GroupModel for Plain {
-    ghost meaning = { λ _. plain };
+impl PairRule for Plain {
+    ghost enough = { λ rule linked shared. linked || nat_le 1 shared };
 
-    ghost lawful = { λ m. plain_lawful };
+    ghost grows = { λ rule. plain_grows };
 
-    fn fits(&self, graph: &Graph, set: MemberSet, a: u32) -> bool {
-        set.has(a)
+    fn enough(&self, linked: bool, shared: u32) -> bool {
+        linked || shared >= 1
     }
+}
 
-    fn pair(&self, graph: &Graph, set: MemberSet, a: u32, b: u32) -> bool {
-        set.has_two(a, b) && (graph.linked(a, b) || graph.shared(a, b, set) >= 1)
+impl NamedModel for Plain {
+    ghost kind = { kind.Plain };
+
+    fn new(t: u32) -> Result<Plain, Refusal> {
+        check_parameter(ModelKind::Plain, t)?;
+        Ok(Plain)
     }
 }

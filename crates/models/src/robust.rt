@@ -1,34 +1,35 @@
-ghost use Rattle.std.specs.Prelude.{◌≤◌};
-ghost use Rattle.rules.specs.Models.{robust};
-ghost use Rattle.rules.proofs.Models.{robust_lawful};
+ghost use Rattle.std.specs.Prelude.{◌-◌, ◌≤◌, ◌&&◌, ◌||◌, nat_le};
+ghost use Rattle.vocabulary.specs.declared.model_kind.ModelKind.TheVariants as kind;
+ghost use Rattle.rules.proofs.Models.{robust_grows};
 
-use groups::model::GroupModel;
-use network::graph::Graph;
-use sets::member_set::MemberSet;
+use crate::named_model::NamedModel;
+use crate::parameter::check_parameter;
+use groups::pair_rule::PairRule;
+use vocabulary::model_kind::ModelKind;
+use vocabulary::refusal::Refusal;
 
-mod making;
-
-// The robust model: each member fits, and two pair when t paths of at most two links join them that share nothing but their ends. A link is one such path, each shared member another.
+// The robust model: two members pair when t paths of at most two links join them that share nothing but their ends. A link is one such path, each shared member another.
 #[derive(Clone, Copy)]
 pub struct Robust {
     t: u32,
     ghost some: { 1 ≤ t },
 }
 
-impl GroupModel for Robust {
-    ghost meaning = { λ m. robust m.t };
+impl PairRule for Robust {
+    ghost enough = { λ rule linked shared. (linked && nat_le (rule.t - 1) shared) || nat_le rule.t shared };
 
-    ghost lawful = { λ m. robust_lawful m.t };
+    ghost grows = { λ rule. robust_grows rule.t };
 
-    fn fits(&self, graph: &Graph, set: MemberSet, a: u32) -> bool {
-        set.has(a)
+    fn enough(&self, linked: bool, shared: u32) -> bool {
+        (linked && shared >= self.t - 1) || shared >= self.t
     }
+}
 
-    fn pair(&self, graph: &Graph, set: MemberSet, a: u32, b: u32) -> bool {
-        if !set.has_two(a, b) {
-            return false;
-        }
-        let shared = graph.shared(a, b, set);
-        (graph.linked(a, b) && shared >= self.t - 1) || shared >= self.t
+impl NamedModel for Robust {
+    ghost kind = { kind.Robust };
+
+    fn new(t: u32) -> Result<Robust, Refusal> {
+        check_parameter(ModelKind::Robust, t)?;
+        Ok(Robust { t })
     }
 }

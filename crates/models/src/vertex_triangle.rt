@@ -1,23 +1,26 @@
 ghost use Rattle.std.specs.Prelude.{◌≡◌};
+ghost use Rattle.vocabulary.specs.declared.model_kind.ModelKind.TheVariants as kind;
 ghost use Rattle.rules.specs.Models.{in_triangle, vertex_triangle};
 ghost use Rattle.network.specs.Graphs.{links_of};
 ghost use Rattle.rules.proofs.Models.{vertex_triangle_lawful};
 
+use crate::named_model::NamedModel;
+use crate::parameter::check_parameter;
 use crate::plain::Plain;
 use groups::model::GroupModel;
 use network::graph::Graph;
 use sets::member_set::MemberSet;
-
-mod making;
+use vocabulary::model_kind::ModelKind;
+use vocabulary::refusal::Refusal;
 
 // The vertex triangle model: a member fits when it lies in a triangle of the set, and two pair as in plain.
 #[derive(Clone, Copy)]
 pub struct VertexTriangle;
 
 impl GroupModel for VertexTriangle {
-    ghost meaning = { λ _. vertex_triangle };
+    ghost meaning = { λ model. vertex_triangle };
 
-    ghost lawful = { λ m. vertex_triangle_lawful };
+    ghost lawful = { λ model. vertex_triangle_lawful };
 
     fn fits(&self, graph: &Graph, set: MemberSet, a: u32) -> bool {
         set.has(a) && in_triangle(graph, set, a)
@@ -28,14 +31,22 @@ impl GroupModel for VertexTriangle {
     }
 }
 
+impl NamedModel for VertexTriangle {
+    ghost kind = { kind.VertexTriangle };
+
+    fn new(t: u32) -> Result<VertexTriangle, Refusal> {
+        check_parameter(ModelKind::VertexTriangle, t)?;
+        Ok(VertexTriangle)
+    }
+}
+
 // Whether two members of the set are linked to a and to each other.
 fn in_triangle(graph: &Graph, set: MemberSet, a: u32) -> bool
     ensures { result ≡ in_triangle (links_of graph.now) set.word a }
 {
-    for b in graph.neighbours(a).intersection(set).members() {
-        if graph.shared(a, b, set) >= 1 {
-            return true;
-        }
-    }
-    false
+    graph
+        .neighbours(a)
+        .intersection(set)
+        .members()
+        .any(|b| graph.shared(a, b, set) >= 1)
 }

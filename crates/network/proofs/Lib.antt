@@ -1,2 +1,1 @@
-mod Gathering
 mod Rows

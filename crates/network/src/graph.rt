@@ -1,9 +1,10 @@
-ghost use Rattle.std.specs.Prelude.{◌≤◌};
-ghost use Rattle.rules.specs.Links.{BothWays, NotItself, OnlyMembers};
+ghost use Rattle.rules.specs.Links.{LawfulLinks};
 ghost use Rattle.network.specs.Rows.{adjacent};
 
 use sets::member_set::MemberSet;
 
+// The methods stand in files of their own: their contracts name the struct, whose file may not import what names it.
+mod editing;
 mod reading;
 mod taking;
 
@@ -12,9 +13,5 @@ mod taking;
 pub struct Graph {
     members: u32,
     rows: [MemberSet; 64],
-    ghost some: { 1 ≤ members },
-    ghost few: { members ≤ 64 },
-    ghost both_ways: { BothWays (adjacent rows) },
-    ghost not_itself: { NotItself (adjacent rows) },
-    ghost only_members: { OnlyMembers members (adjacent rows) },
+    ghost lawful: { LawfulLinks members (adjacent rows) },
 }

@@ -3,5 +3,4 @@
 
 pub mod ends;
 pub mod graph;
-pub mod limit;
 pub mod network;

@@ -2,14 +2,14 @@ ghost use Rattle.std.specs.Prelude.{◌≡◌, ℕ, ◌≤◌, OnErr};
 ghost use Rattle.rules.specs.Links.{Links, LawfulLinks, link_count};
 ghost use Rattle.rules.specs.Refusals.{Made, AfterLink, AfterUnlink, Freed};
 
-use crate::limit::Limit;
 use vocabulary::refusal::Refusal;
 
 // A network: some members, numbered from 1, and the links between them. Its meaning is its set of links.
 pub trait Network: Sized {
-    type Room: Limit;
+    // the most links that a network of this kind holds
+    ghost ROOM: { ℕ };
 
-    const ROOM: Self::Room;
+    const ROOM: u32;
 
     // how many members it has
     ghost members: { Self → ℕ };
@@ -27,7 +27,7 @@ pub trait Network: Sized {
 
     // The most links that a network of this kind holds.
     fn most_links(&self) -> u32
-        ensures { result ≡ Self.Room.Limit.most };
+        ensures { result ≡ ROOM };
 
     // Whether two numbers are linked members; no for equal or unknown ones.
     fn linked(&self, a: u32, b: u32) -> bool
@@ -35,7 +35,7 @@ pub trait Network: Sized {
 
     // Adds one link.
     fn link(&mut self, a: u32, b: u32) -> Result<(), Refusal>
-        ensures after { AfterLink (members self.old) Self.Room.Limit.most (links self.old) a b (links self.new) result }
+        ensures after { AfterLink (members self.old) ROOM (links self.old) a b (links self.new) result }
         ensures members { members self.new ≡ members self.old }
         ensures refused { OnErr result (self.new ≡ self.old) };
 
@@ -43,10 +43,10 @@ pub trait Network: Sized {
     fn unlink(&mut self, a: u32, b: u32) -> Result<(), Refusal>
         ensures after { AfterUnlink (members self.old) (links self.old) a b (links self.new) result }
         ensures members { members self.new ≡ members self.old }
-        ensures freed { Freed (members self.old) Self.Room.Limit.most (links self.new) result }
+        ensures freed { Freed (members self.old) ROOM (links self.new) result }
         ensures refused { OnErr result (self.new ≡ self.old) };
 
     ghost lawful: { (net : Self) → LawfulLinks (members net) (links net) };
 
-    ghost held: { (net : Self) → link_count (members net) (links net) ≤ Self.Room.Limit.most };
+    ghost held: { (net : Self) → link_count (members net) (links net) ≤ ROOM };
 }

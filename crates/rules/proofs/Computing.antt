@@ -7,7 +7,7 @@ use Rattle.std.proofs.lemmas.Bool.Decides.{nat_tests}
 use Rattle.vocabulary.specs.declared.standing.Standing.TheVariants as standing
 use Rattle.vocabulary.specs.declared.model_kind.ModelKind.{ModelKind}
 use Rattle.rules.specs.Sets.{has, inside, SetOf}
-use Rattle.rules.specs.Links.{Links, BothWays, NotItself, OnlyMembers}
+use Rattle.rules.specs.Links.{Links, LawfulLinks}
 use Rattle.rules.specs.Lists.{on, Named}
 use Rattle.rules.specs.Sheets.{no_numbers}
 use Rattle.rules.specs.Models.{Meaning, Group}
@@ -17,7 +17,8 @@ use Rattle.rules.specs.Worked.{SmallNetwork, links_among, OfThose, Lawful, IsNoG
 use Rattle.rules.proofs.Tests.{passes, fails, and_left, and_right, and_both, or_cases}
 use Rattle.rules.proofs.Digits.{has_one, has_or, nobody}
 use Rattle.rules.proofs.Members.{same_members, inside_from, inside_to, inside_of, set_word}
-use Rattle.rules.proofs.Links.{linking_both, linking_itself, linking_only}
+use Rattle.rules.proofs.Links.{no_links_lawful, linking_lawful}
+use Rattle.rules.proofs.Refusals.{TwoMembers}
 use Rattle.rules.proofs.Standings.{one_standing}
 use Rattle.rules.proofs.Agreement.{agrees}
 
@@ -126,22 +127,18 @@ abbrev proper_links : ℕ → List (ℕ × ℕ) → Bool
 proper_links n [] = true
 proper_links n (p ∷ rest) = all (inside n p.0 ∷ inside n p.1 ∷ not (eqb p.0 p.1) ∷ proper_links n rest ∷ [])
 
-link_laws : (n : ℕ) (list : List (ℕ × ℕ)) → T (proper_links n list)
-    → BothWays (links_among list) × NotItself (links_among list) × OnlyMembers n (links_among list)
-link_laws n [] t = (λ a b. refl, λ a. refl, λ a b out. refl)
-link_laws n (p ∷ rest) t =
-    let q = all_pass (inside n p.0 ∷ inside n p.1 ∷ not (eqb p.0 p.1) ∷ proper_links n rest ∷ []) t in
-    let laws = link_laws n rest q.1.1.1.0 in (
-      linking_both p.0 p.1 (links_among rest) laws.0,
-      linking_itself p.0 p.1 (links_among rest) (λ e. T_not (eqb p.0 p.1) q.1.1.0 (passes (eq-eqb p.0 p.1 e))) laws.1,
-      linking_only n p.0 p.1 (links_among rest) q.0 q.1.0 laws.2,
-    )
-
 pub lawful : (net : SmallNetwork) → T (inside 64 net.members && proper_links net.members net.links) → Lawful net
-lawful net t =
-    let i = and_left (inside 64 net.members) (proper_links net.members net.links) t in
-    let laws = link_laws net.members net.links (and_right (inside 64 net.members) (proper_links net.members net.links) t) in
-    record { some = inside_from 64 net.members i; few = inside_to 64 net.members i; both_ways = laws.0; not_itself = laws.1; only_members = laws.2 }
+lawful net t = of_list net.links (and_right (inside 64 net.members) (proper_links net.members net.links) t)
+  where
+    i : T (inside 64 net.members)
+    i = and_left (inside 64 net.members) (proper_links net.members net.links) t
+
+    of_list : (list : List (ℕ × ℕ)) → T (proper_links net.members list) → LawfulLinks net.members (links_among list)
+    of_list [] t = no_links_lawful net.members (inside_from 64 net.members i) (inside_to 64 net.members i)
+    of_list (p ∷ rest) t =
+        let q = all_pass (inside net.members p.0 ∷ inside net.members p.1 ∷ not (eqb p.0 p.1) ∷ proper_links net.members rest ∷ []) t in
+        let ends : TwoMembers net.members p.0 p.1 = record { one = q.0; two = q.1.0; differ = λ e. T_not (eqb p.0 p.1) q.1.1.0 (passes (eq-eqb p.0 p.1 e)) } in
+        linking_lawful net.members p.0 p.1 (links_among rest) ends (of_list rest q.1.1.1.0)
 
 -- ---- groups and two that are apart
 

@@ -2,7 +2,7 @@
 use Rattle.std.proofs.Common.{◌≡◌, ℕ, zero, suc, ◌+◌, ◌-◌, ◌*◌, ◌/◌, ◌%◌, ◌^◌, ◌<◌, ◌≤◌, Bool, true, false, cond, not, ◌&&◌, ◌||◌, T, eqb, ◌⊎◌, sym, refl, ap, ◌∙◌, subst, ap₂, inl, inr, zero-le, le_refl, lt_of_lt_of_le, le_of_suc-le-suc, not-suc-le-zero, mod-lt, mod-eq_of_lt, zero-add, div-one, add-one, one-add, arith, lit<, pow_pos, pow_mono, shr-shr, shr_lt}
 use lib.Arith.{lt-one}
 use lib.Pow.{pow-lt, high}
-use lib.Bits.{bit_and, bit_or, bit_xor, and_mask, and_shr, or_shr, xor_shr, and_mod, or_mod, xor_mod, block_odd, block_half}
+use lib.Bits.{bit_and, bit_or, bit_xor, and_shr, or_shr, xor_shr, and_mod, or_mod, xor_mod, block_odd, block_half}
 use lib.Count.{count_trailing_zeros, under}
 use Rattle.std.proofs.lemmas.Nat.{one_shl}
 use Rattle.std.proofs.lemmas.Bool.{cases_order, cases_lt, eq-eqb, ne_eqb, and_left}
@@ -159,14 +159,6 @@ has_high n S k = ap (λ (x : ℕ). eqb (x % 2) 1) (shr-shr S n k)
 pub has_up_to : (n a : ℕ) → n ≤ 64 → has ((2 ^ 64 - 1) / 2 ^ (64 - n)) a ≡ inside n a
 has_up_to n zero h = has_zero ((2 ^ 64 - 1) / 2 ^ (64 - n))
 has_up_to n (suc k) h = has_high (64 - n) (2 ^ 64 - 1) k ∙ has_lowest 64 (suc (64 - n + k)) ∙ grind (arith, nat_tests)
-
--- one digit of a word, as the program reads it
-pub has_shift : (S a : ℕ) → 1 ≤ a → eqb (bit_and (S / 2 ^ (a - 1)) 1) 1 ≡ has S a
-unfolding has
-has_shift S zero h = absurd (omega arith)
-has_shift S (suc k) h =
-    let e : suc k - 1 ≡ k = omega arith in
-    ap (λ (x : ℕ). eqb (bit_and (S / 2 ^ x) 1) 1) e ∙ ap (λ (x : ℕ). eqb x 1) (and_mask (S / 2 ^ k) 1)
 
 -- ---- the smallest member stands at the trailing zeros
 

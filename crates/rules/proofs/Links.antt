@@ -4,9 +4,10 @@ use mathlib.Core.Path.{fun_ext}
 use Rattle.std.proofs.lemmas.Bool.{cases_eq, cases_lt, cases_order, le-ltb, eqb-true, and_parts, and_right, or_cases}
 use Rattle.std.proofs.lemmas.Bool.Decides.{nat_tests}
 use Rattle.rules.specs.Sets.{inside, tally}
-use Rattle.rules.specs.Links.{Links, no_links, BothWays, NotItself, OnlyMembers, joins, linking, unlinking, sum, link_count}
+use Rattle.rules.specs.Links.{Links, no_links, BothWays, NotItself, OnlyMembers, LawfulLinks, joins, linking, unlinking, sum, link_count}
 use Rattle.rules.proofs.Tests.{as_true}
 use Rattle.rules.proofs.Members.{inside_from, inside_to}
+use Rattle.rules.proofs.Refusals.{TwoMembers}
 use Rattle.rules.proofs.Tallies.{tally_same, tally_one}
 
 -- ---- the laws are kept
@@ -14,26 +15,47 @@ use Rattle.rules.proofs.Tallies.{tally_same, tally_one}
 joins_turned : (a b x y : ℕ) → joins a b x y ≡ joins a b y x
 joins_turned a b x y = grind (arith, nat_tests)
 
-pub linking_both : (a b : ℕ) (l : Links) → BothWays l → BothWays (linking a b l)
+linking_both : (a b : ℕ) (l : Links) → BothWays l → BothWays (linking a b l)
 linking_both a b l h x y = ap₂ ◌||◌ (joins_turned a b x y) (h x y)
 
-pub linking_itself : (a b : ℕ) (l : Links) → (a ≡ b → ⊥) → NotItself l → NotItself (linking a b l)
+linking_itself : (a b : ℕ) (l : Links) → (a ≡ b → ⊥) → NotItself l → NotItself (linking a b l)
 linking_itself a b l d h x = ap (λ (t : Bool). joins a b x x || t) (h x) ∙ grind (arith, nat_tests)
 
-pub linking_only : (n a b : ℕ) (l : Links) → T (inside n a) → T (inside n b) → OnlyMembers n l → OnlyMembers n (linking a b l)
+linking_only : (n a b : ℕ) (l : Links) → T (inside n a) → T (inside n b) → OnlyMembers n l → OnlyMembers n (linking a b l)
 linking_only n a b l i j h x y out = ap (λ (t : Bool). joins a b x y || t) (h x y out) ∙ away (as_true (inside n a) i) (as_true (inside n b) j) out
   where
     away : inside n a ≡ true → inside n b ≡ true → inside n x ≡ false → (joins a b x y || false) ≡ false
     away p q o = grind (arith, nat_tests)
 
-pub unlinking_both : (a b : ℕ) (l : Links) → BothWays l → BothWays (unlinking a b l)
+unlinking_both : (a b : ℕ) (l : Links) → BothWays l → BothWays (unlinking a b l)
 unlinking_both a b l h x y = ap₂ (λ (s t : Bool). not s && t) (joins_turned a b x y) (h x y)
 
-pub unlinking_itself : (a b : ℕ) (l : Links) → NotItself l → NotItself (unlinking a b l)
+unlinking_itself : (a b : ℕ) (l : Links) → NotItself l → NotItself (unlinking a b l)
 unlinking_itself a b l h x = and_right (not (joins a b x x)) (l x x) (h x)
 
-pub unlinking_only : (n a b : ℕ) (l : Links) → OnlyMembers n l → OnlyMembers n (unlinking a b l)
+unlinking_only : (n a b : ℕ) (l : Links) → OnlyMembers n l → OnlyMembers n (unlinking a b l)
 unlinking_only n a b l h x y out = and_right (not (joins a b x y)) (l x y) (h x y out)
+
+pub no_links_lawful : (n : ℕ) → 1 ≤ n → n ≤ 64 → LawfulLinks n no_links
+no_links_lawful n some few = record { some = some; few = few; both_ways = λ a b. refl; not_itself = λ a. refl; only_members = λ a b h. refl }
+
+pub linking_lawful : (n a b : ℕ) (l : Links) → TwoMembers n a b → LawfulLinks n l → LawfulLinks n (linking a b l)
+linking_lawful n a b l ends laws = record {
+  some = laws.some;
+  few = laws.few;
+  both_ways = linking_both a b l laws.both_ways;
+  not_itself = linking_itself a b l ends.differ laws.not_itself;
+  only_members = linking_only n a b l ends.one ends.two laws.only_members;
+}
+
+pub unlinking_lawful : (n a b : ℕ) (l : Links) → LawfulLinks n l → LawfulLinks n (unlinking a b l)
+unlinking_lawful n a b l laws = record {
+  some = laws.some;
+  few = laws.few;
+  both_ways = unlinking_both a b l laws.both_ways;
+  not_itself = unlinking_itself a b l laws.not_itself;
+  only_members = unlinking_only n a b l laws.only_members;
+}
 
 -- ---- how many there are
 

@@ -1,13 +1,13 @@
 -- Sets by their members: when they are the same, how large they are, and their smallest member. Assumes nothing.
 use Rattle.std.proofs.Common.{◌≡◌, ℕ, zero, suc, ◌+◌, ◌-◌, ◌*◌, ◌/◌, ◌%◌, ◌^◌, ◌<◌, ◌≤◌, Bool, true, false, not, ◌&&◌, ◌||◌, T, eqb, leb, ◌⊎◌, sym, refl, ap, ◌∙◌, subst, ap₂, inl, inr, lt_of_lt_of_le, mod-lt, div-add-mod', zero-mul, add-one, arith, lit<, le→leb, eqb→eq, leb→le, pow_pos, pow_mono}
 use lib.Arith.{lt-one}
-use lib.Bits.{bit_or}
+use lib.Bits.{bit_and, bit_or}
 use lib.Count.{count_trailing_zeros}
-use Rattle.std.proofs.lemmas.Bool.{cases_lt, cases_eq, eq-eqb}
+use Rattle.std.proofs.lemmas.Bool.{cases_Bool, cases_lt, cases_eq, eq-eqb}
 use Rattle.std.proofs.lemmas.Bool.Decides.{nat_tests}
 use Rattle.rules.specs.Sets.{Tells, inside, has, Within, SetOf, EmptySet, size, Lowest, SameMembers, SizeLaws}
-use Rattle.rules.proofs.Tests.{as_false, passes, fails, tells_by, and_left, and_right, and_both}
-use Rattle.rules.proofs.Digits.{has_zero, has_or, has_one, has_first, has_next, has_high, half_lt, has_out, nobody, trailing_below, trailing_at}
+use Rattle.rules.proofs.Tests.{as_true, as_false, passes, fails, tells_by, and_left, and_right, and_both}
+use Rattle.rules.proofs.Digits.{has_zero, has_and, has_or, has_one, has_first, has_next, has_high, half_lt, has_out, nobody, trailing_below, trailing_at}
 use Rattle.rules.proofs.Tallies.{tally_same, tally_mono, tally_without}
 
 -- ---- sets with the same members
@@ -89,6 +89,20 @@ empty_word S none = same_members S 0 (λ a. none a ∙ sym (nobody a))
 
 pub empty_tells : (S : ℕ) → Tells (eqb S 0) (EmptySet S)
 empty_tells S = tells_by (eqb S 0) (λ t. no_members S (eqb→eq S 0 t)) (λ n none. n (passes (eq-eqb S 0 (empty_word S none))))
+
+-- a is a member of S when the digit D of a alone is one of the word S
+pub has_digit : (S D a : ℕ) → S < 2 ^ 64 → ((b : ℕ) → has D b ≡ (eqb b a && inside 64 a)) → not (eqb (bit_and S D) 0) ≡ has S a
+has_digit S D a h D_is = elim (cases_Bool (has S a)) [
+  | inl t ↦
+      let i : inside 64 a ≡ true = as_true (inside 64 a) (word_set S h a (passes t)) in
+      let both : has (bit_and S D) a ≡ true = has_and S D a ∙ ap (λ (x : Bool). has S a && x) (D_is a) ∙ grind (arith, nat_tests) in
+      ap not (as_false (eqb (bit_and S D) 0) (λ z. fails (no_members (bit_and S D) (eqb→eq (bit_and S D) 0 z) a) (passes both))) ∙ sym t
+  | inr f ↦ ap not (eq-eqb (bit_and S D) 0 (empty_word (bit_and S D) (λ b. has_and S D b ∙ ap (λ (x : Bool). has S b && x) (D_is b) ∙ out b f (cases_eq b a)))) ∙ sym f
+]
+  where
+    out : (b : ℕ) → has S a ≡ false → (b ≡ a) ⊎ (b ≡ a → ⊥) → (has S b && (eqb b a && inside 64 a)) ≡ false
+    out b f (inl e) = let g : has S b ≡ false = ap (has S) e ∙ f in grind (arith, nat_tests)
+    out b f (inr d) = grind (arith, nat_tests)
 
 -- the members of S that R lacks are none exactly when S is within R
 pub subset_tells : (S R D : ℕ) (b : Bool) → ((a : ℕ) → has D a ≡ (has S a && not (has R a))) → Tells b (EmptySet D) → Tells b (Within S R)

@@ -5,7 +5,7 @@ use lib.Dec.{not_T}
 use Rattle.std.proofs.lemmas.Bool.{eq-eqb}
 use Rattle.rules.specs.Sets.{has, two_of, Within, tally}
 use Rattle.rules.specs.Links.{Links, LawfulLinks, shared}
-use Rattle.rules.specs.Models.{Meaning, LawfulModel, in_triangle, plain, robust, hereditary, vertex_triangle, edge_triangle}
+use Rattle.rules.specs.Models.{LawfulModel, in_triangle, by_count, Grows, vertex_triangle}
 use Rattle.rules.proofs.Tests.{passes, same_test, and_left, and_right, and_both, and_map, or_map}
 use Rattle.rules.proofs.Tallies.{tally_same, tally_mono}
 
@@ -39,10 +39,7 @@ shared_turned l S a b =
 
 -- ---- every member fits, and two pair by a test of their link and the number that they share; the more they share the better
 
-abbrev by_count : (Bool → ℕ → Bool) → Meaning
-by_count test = record { fits = λ l S a. has S a; pairs = λ l S a b. two_of S a b && test (l a b) (shared l a b S) }
-
-by_count_lawful : (test : Bool → ℕ → Bool) → ((x : Bool) (c d : ℕ) → c ≤ d → T (test x c) → T (test x d))
+pub by_count_lawful : (test : Bool → ℕ → Bool) → Grows test
     → (n : ℕ) (l : Links) → LawfulLinks n l → LawfulModel n l (by_count test)
 by_count_lawful test mono n l N = record {
   fits_wider = λ S R a small w. w a;
@@ -58,19 +55,18 @@ by_count_lawful test mono n l N = record {
 pub leb_mono : (k c d : ℕ) → c ≤ d → T (leb k c) → T (leb k d)
 leb_mono k c d h t = le→leb k d (le_trans (leb→le k c t) h)
 
-pub plain_lawful : (n : ℕ) (l : Links) → LawfulLinks n l → LawfulModel n l plain
-plain_lawful = by_count_lawful (λ x c. x || leb 1 c) (λ x c d h. or_map x (leb 1 c) x (leb 1 d) (λ t. t) (leb_mono 1 c d h))
+pub plain_grows : Grows (λ x c. x || leb 1 c)
+plain_grows x c d h = or_map x (leb 1 c) x (leb 1 d) (λ t. t) (leb_mono 1 c d h)
 
-pub robust_lawful : (t n : ℕ) (l : Links) → LawfulLinks n l → LawfulModel n l (robust t)
-robust_lawful t =
-    by_count_lawful (λ x c. (x && leb (t - 1) c) || leb t c)
-    (λ x c d h. or_map (x && leb (t - 1) c) (leb t c) (x && leb (t - 1) d) (leb t d) (and_map x (leb (t - 1) c) x (leb (t - 1) d) (λ s. s) (leb_mono (t - 1) c d h)) (leb_mono t c d h))
+pub robust_grows : (t : ℕ) → Grows (λ x c. (x && leb (t - 1) c) || leb t c)
+robust_grows t x c d h =
+    or_map (x && leb (t - 1) c) (leb t c) (x && leb (t - 1) d) (leb t d) (and_map x (leb (t - 1) c) x (leb (t - 1) d) (λ s. s) (leb_mono (t - 1) c d h)) (leb_mono t c d h)
 
-pub hereditary_lawful : (t n : ℕ) (l : Links) → LawfulLinks n l → LawfulModel n l (hereditary t)
-hereditary_lawful t = by_count_lawful (λ x c. x || leb (t + 1) c) (λ x c d h. or_map x (leb (t + 1) c) x (leb (t + 1) d) (λ s. s) (leb_mono (t + 1) c d h))
+pub hereditary_grows : (t : ℕ) → Grows (λ x c. x || leb (t + 1) c)
+hereditary_grows t x c d h = or_map x (leb (t + 1) c) x (leb (t + 1) d) (λ s. s) (leb_mono (t + 1) c d h)
 
-pub edge_triangle_lawful : (n : ℕ) (l : Links) → LawfulLinks n l → LawfulModel n l edge_triangle
-edge_triangle_lawful = by_count_lawful (λ x c. leb 1 c) (λ x c d h. leb_mono 1 c d h)
+pub edge_triangle_grows : Grows (λ x c. leb 1 c)
+edge_triangle_grows x c d h = leb_mono 1 c d h
 
 -- ---- a triangle of a set is one of every set that holds it
 
@@ -87,7 +83,7 @@ triangle_wider l S R a w = leb_mono 1 (tally (second S) 64) (tally (second R) 64
 
 pub vertex_triangle_lawful : (n : ℕ) (l : Links) → LawfulLinks n l → LawfulModel n l vertex_triangle
 vertex_triangle_lawful n l N =
-    let P = plain_lawful n l N in
+    let P = by_count_lawful (λ x c. x || leb 1 c) plain_grows n l N in
     record {
       fits_wider = λ S R a small w. and_map (has S a) (in_triangle l S a) (has R a) (in_triangle l R a) (w a) (triangle_wider l S R a w);
       pairs_wider = P.pairs_wider;

@@ -1,7 +1,8 @@
 -- The order of sets: its laws, and how sizes and the lowest digit in which two words differ decide it. Assumes nothing.
-use Rattle.std.proofs.Common.{◌≡◌, ℕ, zero, suc, ◌<◌, ◌≤◌, Bool, true, false, T, ltb, ◌⊎◌, sym, refl, ◌∙◌, subst, inl, inr, le_of_suc-le-suc, not-suc-le-zero, lt_irrefl, eq-or-lt_of_le, arith}
-use Rattle.std.proofs.lemmas.Bool.{cases_lt, cases_order, lt-ltb, le-ltb}
-use Rattle.rules.specs.Sets.{Tells, differs, has, SetOf, size}
+use Rattle.std.proofs.Common.{◌≡◌, ℕ, zero, suc, ◌<◌, ◌≤◌, Bool, true, false, T, ◌⊎◌, sym, refl, ◌∙◌, subst, inl, inr, le_of_suc-le-suc, not-suc-le-zero, lt_irrefl, eq-or-lt_of_le, arith}
+use Rattle.std.proofs.lemmas.Bool.{cases_lt, cases_order}
+use Rattle.std.specs.Prelude.{Option, Some, None, MatchOption}
+use Rattle.rules.specs.Sets.{Tells, differs, has, SetOf, size, Smallest}
 use Rattle.rules.specs.Order.{HoldsFirst, Better, OrderLaws}
 use Rattle.rules.proofs.Tests.{compared, tells_by, as_false}
 use Rattle.rules.proofs.Members.{same_members, inside_to}
@@ -61,16 +62,6 @@ order_laws = record {
 
 -- ---- as the program compares
 
-pub by_size : (S R : ℕ) → (size S ≡ size R → ⊥) → Tells (ltb (size R) (size S)) (Better S R)
-by_size S R d = elim (cases_lt (size R) (size S)) [
-  | inl l ↦ subst (λ (b : Bool). Tells b (Better S R)) (sym (lt-ltb (size R) (size S) l)) (inl l)
-  | inr l ↦ subst (λ (b : Bool). Tells b (Better S R)) (sym (le-ltb (size R) (size S) l)) (worse l)
-]
-  where
-    worse : size S ≤ size R → Better S R → ⊥
-    worse l (inl m) = omega arith
-    worse l (inr (e, f)) = d e
-
 agree : (b c : Bool) → differs b c ≡ false → b ≡ c
 agree true true e = refl
 agree true false e = absurd (subst T e tt)
@@ -78,7 +69,7 @@ agree false true e = absurd (subst T e tt)
 agree false false e = refl
 
 -- v is the smallest member of a set that has exactly those in which S and R differ
-pub by_first : (S R D v : ℕ) → size S ≡ size R → ((a : ℕ) → has D a ≡ differs (has S a) (has R a)) → T (has D v) → ((a : ℕ) → T (has D a) → v ≤ a)
+by_first : (S R D v : ℕ) → size S ≡ size R → ((a : ℕ) → has D a ≡ differs (has S a) (has R a)) → T (has D v) → ((a : ℕ) → T (has D a) → v ≤ a)
     → Tells (has S v) (Better S R)
 by_first S R D v same D_is at least = tells_by (has S v) yes' no'
   where
@@ -109,8 +100,15 @@ by_first S R D v same D_is at least = tells_by (has S v) yes' no'
     ]
 
 -- of a set and itself neither is better
-pub not_itself : (S R D : ℕ) → ((a : ℕ) → has D a ≡ differs (has S a) (has R a)) → ((a : ℕ) → has D a ≡ false) → Better S R → ⊥
+not_itself : (S R D : ℕ) → ((a : ℕ) → has D a ≡ differs (has S a) (has R a)) → ((a : ℕ) → has D a ≡ false) → Better S R → ⊥
 not_itself S R D D_is none b = better_irrefl R (subst (λ (x : ℕ). Better x R) same b)
   where
     same : S ≡ R
     same = same_members S R (λ a. agree (has S a) (has R a) (sym (D_is a) ∙ none a))
+
+-- of two sets of one size, the smallest member in which they differ decides, if there is one
+pub first_decides : (S R D : ℕ) (first : Option ℕ) (b : Bool) → size S ≡ size R → ((a : ℕ) → has D a ≡ differs (has S a) (has R a)) → Smallest D first
+    → MatchOption first (b ≡ false) (λ v. b ≡ has S v) → Tells b (Better S R)
+first_decides S R D None b same D_is none e = subst (λ (c : Bool). Tells c (Better S R)) (sym e) (not_itself S R D D_is none)
+first_decides S R D (Some v) b same D_is low e =
+    subst (λ (c : Bool). Tells c (Better S R)) (sym e) (by_first S R D v same D_is low.member low.least)

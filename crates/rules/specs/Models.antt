@@ -1,5 +1,5 @@
 -- Models, their laws and their groups. Assumes nothing.
-use Rattle.std.specs.Prelude.{◌≡◌, ℕ, ◌+◌, ◌-◌, Bool, ◌&&◌, ◌||◌, T, ◌≢◌, nat_le}
+use Rattle.std.specs.Prelude.{◌≡◌, ℕ, ◌+◌, ◌-◌, ◌≤◌, Bool, ◌&&◌, ◌||◌, T, ◌≢◌, nat_le}
 use Rattle.rules.specs.Sets.{has, two_of, Within, SetOf, tally}
 use Rattle.rules.specs.Links.{Links, shared}
 
@@ -36,6 +36,14 @@ pub record Group (n : ℕ) (l : Links) (m : Meaning) (S : ℕ) : Type 0 where
 -- some member of S is linked to a, and another member of S to both
 abbrev pub in_triangle : Links → ℕ → ℕ → Bool
 in_triangle l S a = nat_le 1 (tally (λ b. has S b && (l a b && nat_le 1 (shared l a b S))) 64)
+
+-- each member fits, and two pair by a test of whether they are linked and how many members of the set they share
+abbrev pub by_count : (Bool → ℕ → Bool) → Meaning
+by_count test = record { fits = λ l S a. has S a; pairs = λ l S a b. two_of S a b && test (l a b) (shared l a b S) }
+
+-- the more two share, the better
+abbrev pub Grows : (Bool → ℕ → Bool) → Type 0
+Grows test = (linked : Bool) (few many : ℕ) → few ≤ many → T (test linked few) → T (test linked many)
 
 -- two pair when linked, or when they share at least one member of the set; each member fits
 abbrev pub plain : Meaning

@@ -53,6 +53,16 @@ abbrev pub AfterUnlink : ℕ → Links → ℕ → ℕ → Links → Result (Uni
 AfterUnlink n l a b k (Ok _) = (unlink_refusal n l a b ≡ None) × (k ≡ unlinking a b l)
 AfterUnlink n l a b k (Err e) = (unlink_refusal n l a b ≡ Some e) × (k ≡ l)
 
+-- the links k after two members were linked, whether or not they were, of a network with the links l
+abbrev pub Connected : ℕ → Links → ℕ → ℕ → Links → Result (Unit {0}) Refusal → Type 0
+Connected n l a b k (Ok _) = (ends_refusal n a b None ≡ None) × (k ≡ linking a b l)
+Connected n l a b k (Err e) = (ends_refusal n a b None ≡ Some e) × (k ≡ l)
+
+-- the same where their link was taken away
+abbrev pub Disconnected : ℕ → Links → ℕ → ℕ → Links → Result (Unit {0}) Refusal → Type 0
+Disconnected n l a b k (Ok _) = (ends_refusal n a b None ≡ None) × (k ≡ unlinking a b l)
+Disconnected n l a b k (Err e) = (ends_refusal n a b None ≡ Some e) × (k ≡ l)
+
 -- a place is free again after a taken unlink
 abbrev pub Freed : ℕ → ℕ → Links → Result (Unit {0}) Refusal → Type 0
 Freed n room k (Ok _) = link_count n k < room

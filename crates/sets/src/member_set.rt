@@ -12,6 +12,7 @@ pub struct MemberSet {
 }
 
 impl MemberSet {
+    #[tactic(auto, using(rules::proofs::Digits::nobody))]
     pub fn empty() -> MemberSet
         ensures { EmptySet result.word }
     {
@@ -19,6 +20,7 @@ impl MemberSet {
     }
 
     // All members 1 to n, or 1 to 64 where n is larger.
+    #[tactic(auto, using(rules::proofs::Digits::has_up_to))]
     pub fn up_to(n: u32) -> MemberSet
         ensures { (a : ℕ) → has result.word a ≡ (inside n a && inside 64 a) }
     {
@@ -31,15 +33,13 @@ impl MemberSet {
     }
 
     // No number outside 1 to 64 is in any set.
+    #[tactic(auto, using(rules::proofs::Members::has_digit, rules::proofs::Members::word_set, rules::proofs::Members::same_members))]
     pub fn has(self, a: u32) -> bool
         ensures value { result ≡ has self.word a }
         ensures numbers { SetOf 64 self.word }
         ensures same { SameMembers }
     {
-        if a < 1 || a > 64 {
-            return false;
-        }
-        (self.word >> (a - 1)) & 1 == 1
+        self.word & digit(a) != 0
     }
 
     // Whether a and b are two different members.
@@ -50,28 +50,25 @@ impl MemberSet {
     }
 
     // The set and a; the set itself where a is no number of a member.
+    #[tactic(auto, using(rules::proofs::Digits::has_or))]
     pub fn with(self, a: u32) -> MemberSet
         ensures { (b : ℕ) → has result.word b ≡ ((b == a && inside 64 a) || has self.word b) }
     {
-        if a < 1 || a > 64 {
-            return self;
-        }
         MemberSet {
-            word: self.word | (1u64 << (a - 1)),
+            word: self.word | digit(a),
         }
     }
 
+    #[tactic(auto, using(rules::proofs::Digits::has_except, rules::proofs::Members::word_set))]
     pub fn without(self, a: u32) -> MemberSet
         ensures { Leaves self.word a result.word }
     {
-        if a < 1 || a > 64 {
-            return self;
-        }
         MemberSet {
-            word: self.word & !(1u64 << (a - 1)),
+            word: self.word & !digit(a),
         }
     }
 
+    #[tactic(auto, using(rules::proofs::Digits::has_and))]
     pub fn intersection(self, other: MemberSet) -> MemberSet
         ensures { (a : ℕ) → has result.word a ≡ (has self.word a && has other.word a) }
     {
@@ -80,6 +77,7 @@ impl MemberSet {
         }
     }
 
+    #[tactic(auto, using(rules::proofs::Digits::has_except))]
     pub fn difference(self, other: MemberSet) -> MemberSet
         ensures { (a : ℕ) → has result.word a ≡ (has self.word a && not (has other.word a)) }
     {
@@ -89,6 +87,7 @@ impl MemberSet {
     }
 
     // The members numbered above a.
+    #[tactic(auto, using(rules::proofs::Members::word_set))]
     pub fn above(self, a: u32) -> MemberSet
         ensures { (b : ℕ) → has result.word b ≡ (has self.word b && nat_lt a b) }
     {
@@ -96,6 +95,7 @@ impl MemberSet {
     }
 
     // The members of one of the two and not of both.
+    #[tactic(auto, using(rules::proofs::Digits::has_xor))]
     pub fn symmetric_difference(self, other: MemberSet) -> MemberSet
         ensures { (a : ℕ) → has result.word a ≡ differs (has self.word a) (has other.word a) }
     {
@@ -104,18 +104,21 @@ impl MemberSet {
         }
     }
 
+    #[tactic(auto, using(rules::proofs::Members::empty_tells))]
     pub fn is_empty(self) -> bool
         ensures { Tells result (EmptySet self.word) }
     {
         self.word == 0
     }
 
+    #[tactic(auto, using(rules::proofs::Members::subset_tells))]
     pub fn is_subset(self, other: MemberSet) -> bool
         ensures { Tells result (Within self.word other.word) }
     {
         self.difference(other).is_empty()
     }
 
+    #[tactic(auto, using(rules::proofs::Tallies::tally_ones, rules::proofs::Members::size_laws))]
     pub fn size(self) -> u32
         ensures value { result ≡ size self.word }
         ensures laws { SizeLaws }
@@ -140,6 +143,7 @@ impl MemberSet {
     }
 
     // Whether the set has more members, or as many and the smallest member in which the two differ.
+    #[tactic(auto, using(rules::proofs::Order::order_laws, rules::proofs::Order::first_decides))]
     pub fn is_better_than(self, other: MemberSet) -> bool
         ensures value { Tells result (Better self.word other.word) }
         ensures laws { OrderLaws }
@@ -149,13 +153,13 @@ impl MemberSet {
         if size != other_size {
             return size > other_size;
         }
-        match self.symmetric_difference(other).smallest() {
-            Some(first) => self.has(first),
-            None => false,
-        }
+        self.symmetric_difference(other)
+            .smallest()
+            .is_some_and(|first| self.has(first))
     }
 
     // Whether the set is better than the best so far; with none so far, whether it has a member.
+    #[tactic(auto, using(rules::proofs::Members::some_tells))]
     pub fn beats(self, best: Option<MemberSet>) -> bool
         ensures { Tells result (Beats self.word (word_of best)) }
     {
@@ -164,4 +168,12 @@ impl MemberSet {
             None => !self.is_empty(),
         }
     }
+}
+
+// The digit at which the member a stands; none where a is no number of a member.
+#[tactic(auto, using(rules::proofs::Digits::has_one, rules::proofs::Digits::nobody))]
+fn digit(a: u32) -> u64
+    ensures { (b : ℕ) → has result b ≡ (b == a && inside 64 a) }
+{
+    if a < 1 || a > 64 { 0 } else { 1 << (a - 1) }
 }

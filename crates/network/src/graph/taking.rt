@@ -14,8 +14,8 @@ impl Graph {
     {
         let members = net.n();
         let mut rows = [MemberSet::empty(); 64];
-        for i in 0..members {
-            rows[i as usize] = linked_to(net, i + 1);
+        for a in MemberSet::up_to(members).members() {
+            rows[(a - 1) as usize] = linked_to(net, a);
         }
         Graph { members, rows }
     }
@@ -25,11 +25,10 @@ impl Graph {
 fn linked_to<N: Network>(net: &N, a: u32) -> MemberSet
     ensures { (b : ℕ) → has result.word b ≡ N.Network.links net.now a b }
 {
-    let n = net.n();
     let mut row = MemberSet::empty();
-    for i in 0..n {
-        if net.linked(a, i + 1) {
-            row = row.with(i + 1);
+    for b in MemberSet::up_to(net.n()).members() {
+        if net.linked(a, b) {
+            row = row.with(b);
         }
     }
     row

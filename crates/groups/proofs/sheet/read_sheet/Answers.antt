@@ -36,7 +36,7 @@ loop-number-preserved c =
     let m = c.n-n.ensures.value in
     let known : inside n (get_or sheet i 0) ≡ true = grind (arith, nat_tests) in
     let new : has c.loop-number.named.word (get_or sheet i 0) ≡ false = ap (has c.loop-number.named.word) (sym a) ∙ sym c.if-has.ensures.value in
-    naming_step n sheet i c.loop-number.named.word c.loop-number.invariant c.loop-number-test.true c.with-named.result.word known new c.args.graph.now.few
+    naming_step n sheet i c.loop-number.named.word c.loop-number.invariant c.loop-number-test.true c.with-named.result.word known new c.args.graph.now.lawful.few
     (λ b. c.with-named.ensures b ∙ ap (λ (x : ℕ). (eqb b x && inside 64 x) || has c.loop-number.named.word b) a)
 
 pub returns : goal.returns

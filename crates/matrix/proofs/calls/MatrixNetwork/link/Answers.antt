@@ -1,25 +1,20 @@
-use Rattle.std.proofs.Common.{sym, refl, ◌∙◌, arith, rules}
-use Rattle.matrix.proofs.Edits.{with_link, link_taken}
+use Rattle.std.proofs.Common.{ℕ, sym, ap, ◌∙◌, arith}
+use Rattle.rules.specs.Links.{link_count}
+use Rattle.network.specs.Graphs.{members_of, links_of}
+use Rattle.matrix.proofs.Counts.{one_more, link_taken}
 use Rattle.matrix.proofs.calls.MatrixNetwork.link.Goals as goal
 
-pub invariant_of-self : goal.invariant_of-self
-invariant_of-self c =
+pub invariant_of-self-2 : goal.invariant_of-self-2
+invariant_of-self-2 c =
     let m = c.args.self.now in
-    let free = sym c.linked.ensures ∙ c.if-linked.false in
-    let held = with_link m c.args.a c.args.b c.with.result c.with-2.result (search rules) c.in_ok-check_ends.ensures c.with.ensures c.with-2.ensures free in
-    record {
-      some = m.some;
-      few = m.few;
-      both_ways = held.kept.both_ways;
-      not_itself = held.kept.not_itself;
-      only_members = held.kept.only_members;
-      counted = held.kept.counted;
-    }
+    let done = c.in_ok-connect.ensures in
+    let more = one_more (members_of m.graph) c.args.a c.args.b (links_of m.graph) (links_of c.connect.new.self) m.graph.lawful done.after.0
+    (sym c.linked.ensures ∙ c.if-linked.false) done.after.1 in
+    record { counted = omega (arith, m.counted, more, ap (λ (n : ℕ). link_count n (links_of c.connect.new.self)) done.members) }
 
-pub returns : goal.returns
-returns c =
+pub returns-clause-after : goal.returns-clause-after
+returns-clause-after c =
     let m = c.args.self.now in
-    let ends = c.in_ok-check_ends.ensures in
+    let done = c.in_ok-connect.ensures in
     let free = sym c.linked.ensures ∙ c.if-linked.false in
-    let held = with_link m c.args.a c.args.b c.with.result c.with-2.result (search rules) ends c.with.ensures c.with-2.ensures free in
-    record { after = (link_taken m c.args.a c.args.b c.with.result c.with-2.result (search rules) ends free (omega arith), held.links); members = refl; refused = tt }
+    (link_taken (members_of m.graph) c.args.a c.args.b (links_of m.graph) (links_of m.graph) m.graph.lawful done.after.0 free (omega (arith, m.counted)), done.after.1)

@@ -1,18 +1,10 @@
-use Rattle.std.proofs.Common.{replicate, refl, arith, rules}
-use Rattle.matrix.proofs.Edits.{no_rows, kept_new}
+use Rattle.std.proofs.Common.{sym, ap, ◌∙◌}
+use Rattle.rules.specs.Links.{Links, link_count}
+use Rattle.rules.proofs.Links.{count_none}
+use Rattle.network.specs.Graphs.{members_of}
 use Rattle.matrix.proofs.calls.MatrixNetwork.new.Goals as goal
 
 pub invariant_of-result : goal.invariant_of-result
 invariant_of-result c =
-    let kept = kept_new c.args.n (replicate 64 c.empty.result) (no_rows c.empty.result c.empty.ensures 64) in
-    record {
-      some = omega arith;
-      few = omega arith;
-      both_ways = kept.both_ways;
-      not_itself = kept.not_itself;
-      only_members = kept.only_members;
-      counted = kept.counted;
-    }
-
-pub returns : goal.returns
-returns c = (search rules, refl, no_rows c.empty.result c.empty.ensures 64)
+    let n = members_of c.in_ok-new.field-0 in
+    record { counted = sym (ap (λ (l : Links). link_count n l) c.in_ok-new.ensures.2 ∙ count_none n) }

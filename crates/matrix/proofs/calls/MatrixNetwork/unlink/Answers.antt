@@ -1,34 +1,35 @@
-use Rattle.std.proofs.Common.{sym, refl, ◌∙◌, rules}
-use Rattle.matrix.proofs.Edits.{without_link, unlink_taken, one_free}
+use Rattle.std.proofs.Common.{◌≡◌, ℕ, suc, sym, ap, ◌∙◌, arith}
+use Rattle.rules.specs.Links.{link_count}
+use Rattle.rules.proofs.Links.{count_few}
+use Rattle.network.specs.Graphs.{members_of, links_of}
+use Rattle.matrix.proofs.Counts.{one_less, unlink_taken}
 use Rattle.matrix.proofs.calls.MatrixNetwork.unlink.Goals as goal
 
+fewer : (c : goal.In_ok-disconnect) → suc (link_count (members_of c.disconnect.new.self) (links_of c.disconnect.new.self)) ≡ c.args.self.now.count
+fewer c =
+    let m = c.args.self.now in
+    let done = c.in_ok-disconnect.ensures in
+    let less = one_less (members_of m.graph) c.args.a c.args.b (links_of m.graph) (links_of c.disconnect.new.self) m.graph.lawful done.after.0
+    (sym c.linked.ensures ∙ c.if-not-linked.false) done.after.1 in
+    omega (arith, m.counted, less, ap (λ (n : ℕ). link_count n (links_of c.disconnect.new.self)) done.members)
+
 pub overflow_sub-self : goal.overflow_sub-self
-overflow_sub-self c =
-    let m = c.args.self.now in
-    let ends = c.in_ok-check_ends.ensures in
-    let linked = sym c.linked.ensures ∙ c.if-not-linked.false in
-    let held = without_link m c.args.a c.args.b c.without.result c.without-2.result (search rules) ends c.without.ensures c.without-2.ensures linked in
-    held.0
+overflow_sub-self c = omega (arith, fewer c)
 
-pub invariant_of-self : goal.invariant_of-self
-invariant_of-self c =
-    let m = c.args.self.now in
-    let ends = c.in_ok-check_ends.ensures in
-    let linked = sym c.linked.ensures ∙ c.if-not-linked.false in
-    let held = without_link m c.args.a c.args.b c.without.result c.without-2.result (search rules) ends c.without.ensures c.without-2.ensures linked in
-    record {
-      some = m.some;
-      few = m.few;
-      both_ways = held.1.kept.both_ways;
-      not_itself = held.1.kept.not_itself;
-      only_members = held.1.kept.only_members;
-      counted = held.1.kept.counted;
-    }
+pub invariant_of-self-2 : goal.invariant_of-self-2
+invariant_of-self-2 c = record { counted = omega (arith, fewer c) }
 
-pub returns : goal.returns
-returns c =
+pub returns-clause-after : goal.returns-clause-after
+returns-clause-after c =
     let m = c.args.self.now in
-    let ends = c.in_ok-check_ends.ensures in
-    let linked = sym c.linked.ensures ∙ c.if-not-linked.false in
-    let held = without_link m c.args.a c.args.b c.without.result c.without-2.result (search rules) ends c.without.ensures c.without-2.ensures linked in
-    record { after = (unlink_taken m c.args.a c.args.b c.without.result c.without-2.result (search rules) ends linked, held.1.links); members = refl; freed = one_free m _ held.0 held.1.kept.counted; refused = tt }
+    let done = c.in_ok-disconnect.ensures in
+    let held = sym c.linked.ensures ∙ c.if-not-linked.false in
+    (unlink_taken (members_of m.graph) c.args.a c.args.b (links_of m.graph) (links_of m.graph) m.graph.lawful done.after.0 held, done.after.1)
+
+pub returns-clause-freed : goal.returns-clause-freed
+returns-clause-freed c =
+    let m = c.args.self.now in
+    let done = c.in_ok-disconnect.ensures in
+    let less = one_less (members_of m.graph) c.args.a c.args.b (links_of m.graph) (links_of c.disconnect.new.self) m.graph.lawful done.after.0
+    (sym c.linked.ensures ∙ c.if-not-linked.false) done.after.1 in
+    omega (arith, less, count_few (members_of m.graph) (links_of m.graph) m.graph.lawful.few)

@@ -1,9 +1,0 @@
-use Rattle.std.proofs.Common.{T}
-use Rattle.network.specs.Graphs.{links_of}
-use Rattle.sets.proofs.Sweeping.{Swept}
-use Rattle.groups.proofs.standing.first_loose.Given as goal
-
-abbrev pub invariant-loop-a : goal.invariant-loop-a
-invariant-loop-a g l =
-    (goal.iterator-loop-a g).can_next l.a-iterator × (goal.iterator-loop-a g).is_finite l.a-iterator
-    × Swept l.set.word (λ a. T ((g.M.GroupModel.meaning l.model).fits (links_of l.graph) l.set.word a)) l.a-iterator.rest.word
