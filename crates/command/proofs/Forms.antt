@@ -2,9 +2,10 @@
 use Rattle.std.proofs.Common.{◌≡◌, ℕ, ◌≤◌, List, [], ◌∷◌, ◌++◌, length, refl, ap, ◌∙◌, subst, arith}
 use Rattle.std.proofs.lemmas.List.{append-nil, nil_from_length}
 use Rattle.vocabulary.specs.declared.model_kind.ModelKind.{ModelKind}
-use Rattle.command.specs.Grammar.{Spelled, network, link, sheet, model_letter, Fields, Form}
+use Rattle.vocabulary.specs.ModelKinds.{model_letter}
+use Rattle.command.specs.Grammar.{Spelled, network, link, sheet, Fields, Form}
 use Rattle.command.specs.Scan.{Field, ModelField}
-use Rattle.command.proofs.Numbers.{same_head, same_tail, one_field, field_last, field_spaced, space_stops}
+use Rattle.command.proofs.Numbers.{one_field, field_last, field_spaced, space_stops}
 use Rattle.command.proofs.Models.{one_model}
 use Rattle.command.proofs.Sheets.{Continued, next, fields_none}
 
@@ -21,9 +22,9 @@ letter (sheet xs) = 75
 -- a line begins with the letter of what it says
 letter_first : (d : Spelled) (b : ℕ) (line : List ℕ) → Form d (b ∷ line) → b ≡ letter d
 unfolding letter
-letter_first (network n m t) b line p = same_head b 78 line _ p.1.1.2
-letter_first (link x y) b line p = same_head b 76 line _ p.1.1.2
-letter_first (sheet xs) b line p = same_head b 75 line _ p.1.0
+letter_first (network n m t) b line p = cc p.1.1.2
+letter_first (link x y) b line p = cc p.1.1.2
+letter_first (sheet xs) b line p = cc p.1.0
 
 -- `N`, a number, a model and the model's parameter
 record Numbered (d : Spelled) (line : List ℕ) : Type 0 where
@@ -49,7 +50,7 @@ network_read (network n m t) line p =
       rest = 32 ∷ named;
       more = 32 ∷ es;
       said = refl;
-      size = field_spaced line p.0 (32 ∷ named) n p.1.1.0 (space_stops named) (same_tail 78 78 line _ p.1.1.2);
+      size = field_spaced line p.0 (32 ∷ named) n p.1.1.0 (space_stops named) (cc p.1.1.2);
       model = refl;
       parameter = field_last (32 ∷ es) es t p.1.1.1 refl;
     }
@@ -122,7 +123,7 @@ link_read (link x y) line p =
       b = y;
       rest = 32 ∷ es;
       said = refl;
-      first = field_spaced line p.0 (32 ∷ es) x p.1.1.0 (space_stops es) (same_tail 76 76 line _ p.1.1.2);
+      first = field_spaced line p.0 (32 ∷ es) x p.1.1.0 (space_stops es) (cc p.1.1.2);
       second = field_last (32 ∷ es) es y p.1.1.1 refl;
     }
 link_read (sheet xs) line p = absurd (omega (arith, letter_first (sheet xs) 76 line p))
@@ -163,7 +164,7 @@ unfolding letter
 sheet_read (network n m t) line p = absurd (omega (arith, letter_first (network n m t) 75 line p))
 sheet_read (link a b) line p = absurd (omega (arith, letter_first (link a b) 75 line p))
 sheet_read (sheet ys) line p =
-    let same = same_tail 75 75 line p.0 p.1.0 in
+    let same : line ≡ p.0 = cc p.1.0 in
     record { xs = ys; said = refl; fields = rw same p.1.1 }
 
 pub sheet_made : (xs line rest : List ℕ) → Continued line xs rest → length rest ≡ 0 → Says (sheet xs) (75 ∷ line)

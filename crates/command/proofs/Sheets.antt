@@ -1,9 +1,9 @@
 -- The numbers of a sheet, read one after another.
-use Rattle.std.proofs.Common.{◌≡◌, ℕ, ◌≤◌, List, [], ◌∷◌, ◌++◌, length, sym, refl, ap, ◌∙◌, subst, arith}
+use Rattle.std.proofs.Common.{◌≡◌, ℕ, ◌≤◌, List, [], ◌∷◌, ◌++◌, length, sym, refl, ap, subst, arith}
 use Rattle.std.proofs.lemmas.List.{append_assoc}
 use Rattle.command.specs.Grammar.{Fields}
 use Rattle.command.specs.Scan.{Stops, Field}
-use Rattle.command.proofs.Numbers.{no_cons, same_head, one_field, field_spaced}
+use Rattle.command.proofs.Numbers.{one_field, field_spaced}
 
 -- the numbers of `fields` are xs, and those of `rest` behind them
 pub record Continued (fields xs rest : List ℕ) : Type 0 where
@@ -23,8 +23,8 @@ pub record Next (line : List ℕ) (ys : List ℕ) : Type 0 where
 -- a space or nothing stands before the numbers, and either stops a number
 fields_stop : (line ys : List ℕ) → Fields line ys → Stops line
 fields_stop [] ys p = tt
-fields_stop (b ∷ bs) [] p = λ d. no_cons b bs (sym p)
-fields_stop (b ∷ bs) (y ∷ ys) p = λ d. omega (arith, same_head b 32 bs _ p.1.1.2)
+fields_stop (b ∷ bs) [] p = λ d. cc
+fields_stop (b ∷ bs) (y ∷ ys) p = λ d. let space : b ≡ 32 = cc p.1.1.2 in omega arith
 
 -- where bytes are left, there is a number in front
 pub next : (line ys : List ℕ) → (length line ≡ 0 → ⊥) → Fields line ys → Next line ys
@@ -43,7 +43,7 @@ next line (y ∷ ys) some p =
 -- where none are left, there is no number
 pub fields_none : (line ys : List ℕ) → line ≡ [] → Fields line ys → ys ≡ []
 fields_none line [] e p = refl
-fields_none line (y ∷ ys) e p = absurd (no_cons 32 _ (sym e ∙ p.1.1.2))
+fields_none line (y ∷ ys) e p = cc p.1.1.2
 
 -- one number more
 pub continued_more : (fields xs zs rest after : List ℕ) (x y : ℕ) → Continued fields xs rest → Field rest x after → x ≤ 255

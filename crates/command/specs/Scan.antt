@@ -1,7 +1,8 @@
 -- One field on a line, a number or a model, and what follows it. Assumes nothing.
 use Rattle.std.specs.Prelude.{◌≡◌, ℕ, ◌<◌, ◌≤◌, List, [], ◌∷◌, ◌++◌, length, slice_index}
 use Rattle.vocabulary.specs.declared.model_kind.ModelKind.{ModelKind}
-use Rattle.command.specs.Grammar.{Digit, Numeral, model_letter}
+use Rattle.vocabulary.specs.ModelKinds.{model_letter}
+use Rattle.command.specs.Grammar.{Digit, Numeral}
 
 -- a number has ended: no digit follows
 abbrev pub Stops : List ℕ → Type 0

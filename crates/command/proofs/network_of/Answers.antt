@@ -1,6 +1,5 @@
--- A number, a model, its parameter and nothing behind it, or no such command.
+-- A number, a model and its parameter, or no such command.
 use Rattle.command.proofs.Forms.{network_made, network_none, network_unnamed, network_refused}
-use Rattle.command.proofs.Numbers.{ended, not_ended}
 use Rattle.command.proofs.network_of.Goals as goal
 
 pub returns-in_err-n : goal.returns-in_err-n
@@ -13,14 +12,7 @@ returns-in_err-model c =
 pub returns-in_err-t : goal.returns-in_err-t
 returns-in_err-t c =
     rw c.from_residual-in_err-t.ensures
-    (network_refused _ _ _ _ _ c.in_ok-n.ensures c.in_ok-model.ensures (λ t. c.in_err-t.ensures t _))
+    (network_refused _ _ _ _ _ c.in_ok-n.ensures c.in_ok-model.ensures c.in_err-t.ensures)
 
-pub returns-then-is_empty : goal.returns-then-is_empty
-returns-then-is_empty c =
-    network_made _ _ _ _ _ _ c.in_ok-n.ensures c.in_ok-model.ensures
-    (ended _ _ _ c.in_ok-t.ensures c.if-is_empty.ensures)
-
-pub returns-else-is_empty : goal.returns-else-is_empty
-returns-else-is_empty c =
-    network_refused _ _ _ _ _ c.in_ok-n.ensures c.in_ok-model.ensures
-    (not_ended _ _ _ c.in_ok-t.ensures c.if-is_empty.ensures)
+pub returns : goal.returns
+returns c = network_made _ _ _ _ _ _ c.in_ok-n.ensures c.in_ok-model.ensures c.in_ok-t.ensures
