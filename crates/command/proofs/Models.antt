@@ -1,5 +1,5 @@
 -- A line's model is one space and the model's letter, so there is only one way to read it.
-use Rattle.std.proofs.Common.{◌≡◌, ℕ, List, arith}
+use Rattle.std.proofs.Common.{◌≡◌, List, ℕ, arith}
 use Rattle.vocabulary.specs.declared.model_kind.ModelKind.{ModelKind}
 use Rattle.vocabulary.specs.ModelKinds.{model_letter}
 use Rattle.command.specs.Scan.{ModelField}

@@ -26,7 +26,8 @@ fn digits(s: &[u8]) -> usize
 
 // The number that the digits write.
 fn value(s: &[u8]) -> u32
-    requires { (length s.now ≤ 7) × All Digit s.now }
+    requires few { length s.now ≤ 7 }
+    requires digits { All Digit s.now }
     ensures { result ≡ number_written s.now }
 {
     s.iter().fold(0, |v, b| v * 10 + u32::from(*b - b'0'))

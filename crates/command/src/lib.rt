@@ -12,13 +12,15 @@ use field::{field, last_field, model_field};
 use lines::LONGEST;
 use vocabulary::model_kind::ModelKind;
 
-// Each number takes two bytes of a line at least, and the command's letter one: no sheet has more.
-pub const MOST_NUMBERS: usize = 500;
+// No line has more numbers, since each takes two bytes at least.
+pub const MOST_NUMBERS: usize = LONGEST / 2;
 
+// What a line asks for.
 #[derive(Debug, Drop)]
 pub enum Command {
     Network { n: u32, model: ModelKind, t: u32 },
     Link(u32, u32),
+    // the numbers, in the order given
     Sheet(ArrayVec<u8, MOST_NUMBERS>),
 }
 

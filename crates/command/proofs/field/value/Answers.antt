@@ -19,7 +19,7 @@ fold-requires-clause-callable c =
     _ _ _ _ refl
     (λ xs t q x u before h so_far.
     let turn = YieldsList-turn road xs t before (Some x) u x refl h in
-    let digit : Digit x.now = let at = c.requires.1 (length xs) x.now turn.0 in (omega arith, omega arith) in
-    let below = number_small c.args.s.now c.requires.1 (length xs) (omega arith) (omega arith) in
+    let digit : Digit x.now = let at = c.requires.digits (length xs) x.now turn.0 in (omega arith, omega arith) in
+    let below = number_small c.args.s.now c.requires.digits (length xs) (omega arith) (omega arith) in
     let small : q.1 < 1000000 = rw (so_far, YieldsList-so_far road xs t before) below in
     search rules)
