@@ -1,4 +1,4 @@
--- Seven digits stay below ten million.
+-- Before each digit the total is the number of the digits before it: below a million, as they are six at most, so one digit more fits.
 use Rattle.std.proofs.Common.{◌≡◌, ◌+◌, ◌-◌, ◌*◌, ◌<◌, Some, length, map, refl, arith, rules}
 use Rattle.std.proofs.lemmas.List.{map-append}
 use Rattle.std.proofs.lemmas.List.Sums.{fold_push}
