@@ -1,5 +1,5 @@
 -- A call that was taken, as the command that asked for it. Assumes nothing.
-use Rattle.std.proofs.Common.{◌≡◌, ℕ, List, take, Some, None, Option, sym, refl, subst}
+use Rattle.std.proofs.Common.{◌≡◌, ℕ, List, Some, None, Option, sym, refl, subst}
 use Rattle.vocabulary.specs.declared.refusal.Refusal.{Refusal}
 use Rattle.vocabulary.specs.declared.standing.Standing.{Standing}
 use Rattle.vocabulary.specs.declared.model_kind.ModelKind.{ModelKind}
@@ -13,7 +13,6 @@ use Rattle.any_model.specs.AnyModels.{meaning_of}
 use Rattle.command.specs.Reading.{says}
 use Rattle.command.specs.declared.Command.{Command}
 use Rattle.command.specs.declared.Command.TheVariants.{Network, Link}
-use Rattle.command.specs.declared.sheet.Sheet.{Sheet}
 use Rattle.check_sheet.specs.declared.setup.Setup.{Setup}
 use Rattle.replies.specs.declared.reply.Reply.{Reply}
 use Rattle.replies.specs.declared.reply.Reply.TheVariants.{Done, Judged}
@@ -40,7 +39,7 @@ module _ (before : Option Setup) (command : Command) where
       let o = link_refusal (members_of s.net) room (links_of s.net) a b in
       found (Some s) (Link a b) Done (Some after) e d (subst (λ (x : Option Setup). Changed o P x Done (Some after)) e (taken o P after free is))
 
-  pub judged : (s : Setup) (sheet : Sheet) (numbers : List ℕ) (S : ℕ) (standing : Standing) → before ≡ Some s → command ≡ Command.Sheet sheet → numbers ≡ take sheet.len sheet.bytes
+  pub judged : (s : Setup) (sheet : _) (numbers : List ℕ) (S : ℕ) (standing : Standing) → before ≡ Some s → command ≡ Command.Sheet sheet → numbers ≡ sheet.items
       → sheet_refusal (members_of s.net) numbers ≡ None → Named numbers S → StandsOnly (members_of s.net) (links_of s.net) (meaning_of s.model) S standing
       → Answered before (says command) (Judged standing) before
   judged s sheet numbers S standing e d on free named stands =

@@ -1,8 +1,7 @@
 -- How a line is written: what each command looks like as bytes. Assumes nothing.
-use Rattle.std.specs.Prelude.{◌≡◌, ℕ, ◌+◌, ◌-◌, ◌*◌, ◌≤◌, List, [], ◌∷◌, ◌++◌, length, fold}
-use Rattle.std.specs.List.{AllByRecursion}
+use Rattle.std.specs.Prelude.{◌≡◌, ℕ, ◌+◌, ◌-◌, ◌*◌, ◌≤◌, List, [], ◌∷◌, ◌++◌, length, fold, All}
 use Rattle.vocabulary.specs.declared.model_kind.ModelKind.{ModelKind}
-use Rattle.vocabulary.specs.declared.model_kind.ModelKind.TheVariants as kind
+use Rattle.vocabulary.specs.ModelKinds.{model_letter}
 
 -- a byte from `0` to `9`
 abbrev pub Digit : ℕ → Type 0
@@ -16,18 +15,10 @@ number_written ds = fold (λ n d. n * 10 + (d - 48)) 0 ds
 pub record Numeral (ds : List ℕ) (x : ℕ) : Type 0 where
   pub some : 1 ≤ length ds
   pub few : length ds ≤ 7
-  pub digits : AllByRecursion Digit ds
+  pub digits : All Digit ds
   pub value : x ≡ number_written ds
 
--- the letter that names a model: `P`, `R`, `H`, `V` or `E`
-abbrev pub model_letter : ModelKind → ℕ
-model_letter kind.Plain = 80
-model_letter kind.Robust = 82
-model_letter kind.Hereditary = 72
-model_letter kind.VertexTriangle = 86
-model_letter kind.EdgeTriangle = 69
-
--- a command as it is said, without the spare places of a sheet
+-- a command as it is said
 pub data Spelled : Type 0 where
   network : ℕ → ModelKind → ℕ → Spelled
   link : ℕ → ℕ → Spelled

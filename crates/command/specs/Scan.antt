@@ -1,7 +1,8 @@
 -- One field on a line, a number or a model, and what follows it. Assumes nothing.
-use Rattle.std.specs.Prelude.{◌≡◌, ℕ, ◌<◌, ◌≤◌, List, [], ◌∷◌, ◌++◌, length, slice_index}
+use Rattle.std.specs.Prelude.{◌≡◌, ℕ, ◌≤◌, List, [], ◌∷◌, ◌++◌, length, take, drop, All}
 use Rattle.vocabulary.specs.declared.model_kind.ModelKind.{ModelKind}
-use Rattle.command.specs.Grammar.{Digit, Numeral, model_letter}
+use Rattle.vocabulary.specs.ModelKinds.{model_letter}
+use Rattle.command.specs.Grammar.{Digit, Numeral}
 
 -- a number has ended: no digit follows
 abbrev pub Stops : List ℕ → Type 0
@@ -11,8 +12,8 @@ Stops (b ∷ bs) = Digit b → ⊥
 -- the first n bytes are digits, and no more
 pub record Counted (line : List ℕ) (n : ℕ) : Type 0 where
   pub len : n ≤ length line
-  pub same : (k : ℕ) → k < n → Digit (slice_index line k)
-  pub after : n < length line → Digit (slice_index line n) → ⊥
+  pub digits : All Digit (take n line)
+  pub stops : Stops (drop n line)
 
 -- a space, all the digits that follow it, which write x, and what is left
 pub record Field (line : List ℕ) (x : ℕ) (rest : List ℕ) : Type 0 where

@@ -1,7 +1,9 @@
-ghost use Rattle.std.specs.Prelude.{◌≡◌, ℕ, ◌≤◌, List, ◌∷◌, length, Some, None, ◌≢◌};
-ghost use Rattle.std.specs.List.{AllByRecursion};
+ghost use Rattle.std.specs.Prelude.{◌≡◌, ℕ, ◌≤◌, List, [], ◌∷◌, length, Some, None, ◌≢◌, All};
 ghost use Rattle.command.specs.Grammar.{Digit, number_written};
-ghost use Rattle.command.specs.Scan.{Counted, Field};
+ghost use Rattle.command.specs.Scan.{Counted, Field, ModelField};
+ghost use Rattle.vocabulary.specs.declared.model_kind.ModelKind.{ModelKind};
+
+use vocabulary::model_kind::ModelKind;
 
 // A number has at most so many digits.
 const MOST_DIGITS: usize = 7;
@@ -10,32 +12,25 @@ const MOST_DIGITS: usize = 7;
 pub(crate) fn after_space(s: &[u8]) -> Option<&[u8]>
     ensures { elim result [ Some rest ↦ s.now ≡ 32 ∷ rest.now | None ↦ ((rest : List ℕ) → s.now ≢ 32 ∷ rest) ] }
 {
-    let (first, rest) = s.split_first()?;
-    if *first == b' ' { Some(rest) } else { None }
+    s.strip_prefix(b" ")
 }
 
 // How many digits stand in front.
 fn digits(s: &[u8]) -> usize
     ensures { Counted s.now result }
 {
-    for (i, b) in s.iter().enumerate() {
-        if !b.is_ascii_digit() {
-            return i;
-        }
-    }
-    s.len()
+    s.iter()
+        .position(|b| !b.is_ascii_digit())
+        .unwrap_or(s.len())
 }
 
 // The number that the digits write.
 fn value(s: &[u8]) -> u32
-    requires { (length s.now ≤ 7) × (AllByRecursion Digit s.now) }
+    requires few { length s.now ≤ 7 }
+    requires digits { All Digit s.now }
     ensures { result ≡ number_written s.now }
 {
-    let mut v = 0;
-    for b in s {
-        v = v * 10 + u32::from(*b - b'0');
-    }
-    v
+    s.iter().fold(0, |v, b| v * 10 + u32::from(*b - b'0'))
 }
 
 // One space and one to seven digits, with what is left behind the last digit.
@@ -49,4 +44,22 @@ pub(crate) fn field(s: &[u8]) -> Option<(u32, &[u8])>
     }
     let (front, after) = rest.split_at(n);
     Some((value(front), after))
+}
+
+// One space and one to seven digits, with nothing behind them.
+pub(crate) fn last_field(s: &[u8]) -> Option<u32>
+    ensures { elim result [ Some x ↦ Field s.now x [] | None ↦ ((x : ℕ) → Field s.now x [] → ⊥) ] }
+{
+    match field(s)? {
+        (x, []) => Some(x),
+        _ => None,
+    }
+}
+
+// One space and one model letter, with what is left behind it.
+pub(crate) fn model_field(s: &[u8]) -> Option<(ModelKind, &[u8])>
+    ensures { elim result [ Some x ↦ ModelField s.now x.0 x.1.now | None ↦ ((m : ModelKind) (more : List ℕ) → ModelField s.now m more → ⊥) ] }
+{
+    let (letter, after) = after_space(s)?.split_first()?;
+    Some((ModelKind::try_from(*letter).ok()?, after))
 }

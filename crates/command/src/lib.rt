@@ -2,24 +2,26 @@
 #![tactic(auto)]
 
 mod field;
-mod model_letter;
-mod sheet;
 
 ghost use Rattle.std.specs.Prelude.{◌<◌, ◌∷◌, length};
 ghost use Rattle.command.specs.Grammar.{Form};
 ghost use Rattle.command.specs.Reading.{Reads, Spells};
 
-use field::field;
+use arrayvec::ArrayVec;
+use field::{field, last_field, model_field};
 use lines::LONGEST;
-use model_letter::model_field;
-pub use sheet::Sheet;
 use vocabulary::model_kind::ModelKind;
 
-#[derive(Clone, Copy)]
+// No line has more numbers, since each takes two bytes at least.
+pub const MOST_NUMBERS: usize = LONGEST / 2;
+
+// What a line asks for.
+#[derive(Debug, Drop)]
 pub enum Command {
     Network { n: u32, model: ModelKind, t: u32 },
     Link(u32, u32),
-    Sheet(Sheet),
+    // the numbers, in the order given
+    Sheet(ArrayVec<u8, MOST_NUMBERS>),
 }
 
 // What `N` is followed by: a number, a model and the model's parameter.
@@ -28,12 +30,8 @@ fn network_of(fields: &[u8]) -> Option<Command>
 {
     let (n, rest) = field(fields)?;
     let (model, rest) = model_field(rest)?;
-    let (t, rest) = field(rest)?;
-    if rest.is_empty() {
-        Some(Command::Network { n, model, t })
-    } else {
-        None
-    }
+    let t = last_field(rest)?;
+    Some(Command::Network { n, model, t })
 }
 
 // What `L` is followed by: two numbers.
@@ -41,12 +39,8 @@ fn link_of(fields: &[u8]) -> Option<Command>
     ensures { Spells (λ c. Form c (76 ∷ fields.now)) result }
 {
     let (a, rest) = field(fields)?;
-    let (b, rest) = field(rest)?;
-    if rest.is_empty() {
-        Some(Command::Link(a, b))
-    } else {
-        None
-    }
+    let b = last_field(rest)?;
+    Some(Command::Link(a, b))
 }
 
 // What `K` is followed by: any number of numbers, each of one byte.
@@ -54,17 +48,14 @@ fn sheet_of(fields: &[u8]) -> Option<Command>
     requires { length fields.now < 1000 }
     ensures { Spells (λ c. Form c (75 ∷ fields.now)) result }
 {
-    let mut sheet = Sheet::new();
+    let mut numbers = ArrayVec::new();
     let mut rest = fields;
     while !rest.is_empty() {
-        let (x, after) = field(rest)?;
-        let Ok(x) = u8::try_from(x) else {
-            return None;
-        };
-        sheet.push(x);
+        let (number, after) = field(rest)?;
+        numbers.push(u8::try_from(number).ok()?);
         rest = after;
     }
-    Some(Command::Sheet(sheet))
+    Some(Command::Sheet(numbers))
 }
 
 // The command that a line spells, if it spells one.
@@ -75,10 +66,10 @@ pub fn parse(line: &[u8]) -> Option<Command>
         return None;
     }
     let (letter, fields) = line.split_first()?;
-    match *letter as char {
-        'N' => network_of(fields),
-        'L' => link_of(fields),
-        'K' => sheet_of(fields),
+    match *letter {
+        b'N' => network_of(fields),
+        b'L' => link_of(fields),
+        b'K' => sheet_of(fields),
         _ => None,
     }
 }

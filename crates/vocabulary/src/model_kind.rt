@@ -1,3 +1,8 @@
+ghost use Rattle.vocabulary.specs.ModelKinds.{NamesModel};
+
+use std::error::Error;
+use std::fmt;
+
 // The models of a group by name.
 #[derive(Clone, Copy, Debug, PartialEq, Eq)]
 pub enum ModelKind {
@@ -7,3 +12,33 @@ pub enum ModelKind {
     VertexTriangle,
     EdgeTriangle,
 }
+
+// A letter that names no model.
+#[derive(Clone, Copy, Debug, PartialEq, Eq)]
+pub struct UnknownLetter(pub u8);
+
+// The model that a letter names.
+impl TryFrom<u8> for ModelKind {
+    type Error = UnknownLetter;
+
+    ghost try_from_gives = { NamesModel };
+
+    fn try_from(letter: u8) -> Result<ModelKind, UnknownLetter> {
+        match letter {
+            b'P' => Ok(ModelKind::Plain),
+            b'R' => Ok(ModelKind::Robust),
+            b'H' => Ok(ModelKind::Hereditary),
+            b'V' => Ok(ModelKind::VertexTriangle),
+            b'E' => Ok(ModelKind::EdgeTriangle),
+            _ => Err(UnknownLetter(letter)),
+        }
+    }
+}
+
+impl fmt::Display for UnknownLetter {
+    fn fmt<W: fmt::Write>(&self, f: &mut fmt::Formatter<W>) -> fmt::Result {
+        write!(f, "no model has the letter {}", char::from(self.0))
+    }
+}
+
+impl Error for UnknownLetter {}

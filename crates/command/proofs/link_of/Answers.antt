@@ -1,19 +1,12 @@
--- Two numbers and nothing behind them, or no such command.
+-- Two numbers, or no such command.
 use Rattle.command.proofs.Forms.{link_made, link_none, link_refused}
-use Rattle.command.proofs.Numbers.{ended, not_ended}
 use Rattle.command.proofs.link_of.Goals as goal
 
 pub returns-in_err-a : goal.returns-in_err-a
-returns-in_err-a c = rw c.from_residual.ensures (link_none _ c.in_err-a.ensures)
+returns-in_err-a c = rw c.from_residual.ensures (link_none c.in_err-a.ensures)
 
 pub returns-in_err-b : goal.returns-in_err-b
-returns-in_err-b c =
-    rw c.from_residual-in_err-b.ensures (link_refused _ _ _ c.in_ok-a.ensures (λ n. c.in_err-b.ensures n _))
+returns-in_err-b c = rw c.from_residual-in_err-b.ensures (link_refused c.in_ok-a.ensures c.in_err-b.ensures)
 
-pub returns-then-is_empty : goal.returns-then-is_empty
-returns-then-is_empty c =
-    link_made _ _ _ _ c.in_ok-a.ensures (ended _ _ _ c.in_ok-b.ensures c.if-is_empty.ensures)
-
-pub returns-else-is_empty : goal.returns-else-is_empty
-returns-else-is_empty c =
-    link_refused _ _ _ c.in_ok-a.ensures (not_ended _ _ _ c.in_ok-b.ensures c.if-is_empty.ensures)
+pub returns : goal.returns
+returns c = link_made c.in_ok-a.ensures c.in_ok-b.ensures

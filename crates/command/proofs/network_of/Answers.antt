@@ -1,26 +1,16 @@
--- A number, a model, its parameter and nothing behind it, or no such command.
+-- A number, a model and its parameter, or no such command.
 use Rattle.command.proofs.Forms.{network_made, network_none, network_unnamed, network_refused}
-use Rattle.command.proofs.Numbers.{ended, not_ended}
 use Rattle.command.proofs.network_of.Goals as goal
 
 pub returns-in_err-n : goal.returns-in_err-n
-returns-in_err-n c = rw c.from_residual.ensures (network_none _ c.in_err-n.ensures)
+returns-in_err-n c = rw c.from_residual.ensures (network_none c.in_err-n.ensures)
 
 pub returns-in_err-model : goal.returns-in_err-model
-returns-in_err-model c =
-    rw c.from_residual-in_err-model.ensures (network_unnamed _ _ _ c.in_ok-n.ensures c.in_err-model.ensures)
+returns-in_err-model c = rw c.from_residual-in_err-model.ensures (network_unnamed c.in_ok-n.ensures c.in_err-model.ensures)
 
 pub returns-in_err-t : goal.returns-in_err-t
 returns-in_err-t c =
-    rw c.from_residual-in_err-t.ensures
-    (network_refused _ _ _ _ _ c.in_ok-n.ensures c.in_ok-model.ensures (λ t. c.in_err-t.ensures t _))
+    rw c.from_residual-in_err-t.ensures (network_refused _ c.in_ok-n.ensures c.in_ok-model.ensures c.in_err-t.ensures)
 
-pub returns-then-is_empty : goal.returns-then-is_empty
-returns-then-is_empty c =
-    network_made _ _ _ _ _ _ c.in_ok-n.ensures c.in_ok-model.ensures
-    (ended _ _ _ c.in_ok-t.ensures c.if-is_empty.ensures)
-
-pub returns-else-is_empty : goal.returns-else-is_empty
-returns-else-is_empty c =
-    network_refused _ _ _ _ _ c.in_ok-n.ensures c.in_ok-model.ensures
-    (not_ended _ _ _ c.in_ok-t.ensures c.if-is_empty.ensures)
+pub returns : goal.returns
+returns c = network_made c.in_ok-n.ensures c.in_ok-model.ensures c.in_ok-t.ensures

@@ -1,30 +1,34 @@
 -- Each turn reads one number more; at the end the sheet has them all, and before it a line that goes wrong says nothing.
-use Rattle.std.proofs.Common.{sym, arith}
-use Rattle.std.proofs.lemmas.Bool.{eqb-false, eqb-true}
+use Rattle.std.proofs.Common.{arith}
+use Rattle.std.proofs.lemmas.Grind.{common_steps}
 use Rattle.command.proofs.Numbers.{one_field, field_len}
 use Rattle.command.proofs.Sheets.{continued_more}
 use Rattle.command.proofs.Forms.{sheet_made, sheet_refused}
 use Rattle.command.proofs.sheet_of.Goals as goal
 
-pub returns-in_err-x : goal.returns-in_err-x
-returns-in_err-x c =
-    let some = eqb-false _ _ (sym c.loop-rest-test.ensures) in
-    rw c.from_residual.ensures (sheet_refused _ _ _ c.loop-rest.invariant.0 some (λ x more _. c.in_err-x.ensures x more))
+pub returns-in_err-number : goal.returns-in_err-number
+returns-in_err-number c =
+    rw c.from_residual.ensures
+    (sheet_refused c.loop-rest.invariant.read c.loop-rest-test.ensures (λ x more _. c.in_err-number.ensures x more))
 
-pub returns-in_default : goal.returns-in_default
-returns-in_default c =
-    let some = eqb-false _ _ (sym c.loop-rest-test.ensures) in
-    sheet_refused _ _ _ c.loop-rest.invariant.0 some (λ x more small f. c.in_default.ensures (omega (arith, (one_field _ _ _ _ _ c.in_ok-x.ensures f).0)))
+-- the number in front takes more than one byte
+pub returns-in_err-ok : goal.returns-in_err-ok
+returns-in_err-ok c =
+    rw c.from_residual-in_err-ok.ensures (sheet_refused c.loop-rest.invariant.read c.loop-rest-test.ensures (λ x more small f.
+    let one = one_field c.in_ok-number.ensures f in
+    grind (arith, common_steps)))
 
 pub loop-rest-smaller : goal.loop-rest-smaller
-loop-rest-smaller c = omega (arith, field_len _ _ _ c.in_ok-x.ensures)
+loop-rest-smaller c = omega (arith, field_len c.in_ok-number.ensures)
 
 pub loop-rest-preserved : goal.loop-rest-preserved
-loop-rest-preserved c = (
-  continued_more _ _ _ _ _ _ _ c.loop-rest.invariant.0 c.in_ok-x.ensures (omega (arith, c.in-Ok.ensures.0))
-      c.in-Ok.ensures.1 c.push.ensures.after,
-  omega (arith, c.loop-rest.invariant.1, c.push.ensures.len, field_len _ _ _ c.in_ok-x.ensures),
-)
+loop-rest-preserved c =
+    record {
+      read =
+          continued_more c.loop-rest.invariant.read c.in_ok-number.ensures (grind (arith, common_steps))
+          (grind (arith, common_steps)) c.push.ensures.items;
+      room = omega (arith, field_len c.in_ok-number.ensures);
+    }
 
 pub returns : goal.returns
-returns c = sheet_made _ _ _ c.loop-rest.invariant.0 (eqb-true _ _ (sym c.loop-rest-test.ensures))
+returns c = sheet_made c.loop-rest.invariant.read c.loop-rest-test.ensures

@@ -1,40 +1,25 @@
--- One more digit is ten times the number before it, and the digit; seven digits stay below ten million.
-use Rattle.std.proofs.Common.{◌≡◌, ◌+◌, ◌-◌, ◌*◌, ◌^◌, ◌≤◌, ap, ◌∙◌, pow-suc, add-one, arith, lit<}
-use native.Mathlib.Nat.{pow-le-pow_right}
-use Rattle.std.proofs.lemmas.List.Sums.{fold_more}
-use Rattle.std.proofs.lemmas.List.{take_all}
-use Rattle.std.proofs.ByRecursion.{All-get_or}
+-- Before each digit the total is the number of the digits before it: below a million, as they are six at most, so one digit more fits.
+use Rattle.std.proofs.Common.{◌≡◌, ◌+◌, ◌-◌, ◌*◌, ◌<◌, Some, length, map, refl, arith, rules}
+use Rattle.std.proofs.lemmas.List.{map-append}
+use Rattle.std.proofs.lemmas.List.Sums.{fold_push}
+use Rattle.std.proofs.lemmas.Fn.{serves_by}
+use Rattle.std.proofs.lemmas.Iterator.{YieldsList-from_slice}
+use Rattle.std.proofs.lemmas.Iterator.Consumers.{YieldsList-so_far, YieldsList-turn}
 use Rattle.command.specs.Grammar.{Digit, number_written}
+use Rattle.command.proofs.Numbers.{number_small}
 use Rattle.command.proofs.field.value.Goals as goal
 
--- a power of ten up to the sixth
-few : {i : _} → i ≤ 6 → 10 ^ i ≤ 1000000
-few h = pow-le-pow_right (lit< tt) h
-
-pub overflow_mul-v : goal.overflow_mul-v
-overflow_mul-v c = omega (arith, c.loop-b.invariant.1, few {i = c.loop-b.b-index} (omega (arith, c.requires.0)))
-
-pub overflow_add-v : goal.overflow_add-v
-overflow_add-v c =
-    omega (
-      arith,
-      c.loop-b.invariant.1,
-      c.from.ensures,
-      c.type_inv.s c.loop-b.b-index,
-      few {i = c.loop-b.b-index} (omega (arith, c.requires.0)),
-    )
-
-pub overflow_sub-b : goal.overflow_sub-b
-overflow_sub-b c = omega (arith, All-get_or Digit c.args.s.now c.loop-b.b-index 0 c.loop-b-test.true c.requires.1)
-
-pub loop-b-preserved : goal.loop-b-preserved
-loop-b-preserved c =
-    let digit = All-get_or Digit c.args.s.now c.loop-b.b-index 0 c.loop-b-test.true c.requires.1 in
-    let more : 10 ^ (c.loop-b.b-index + 1) ≡ 10 ^ c.loop-b.b-index * 10 = rw add-one (pow-suc 10 c.loop-b.b-index) in
-    let step = fold_more (λ n d. n * 10 + (d - 48)) 0 c.args.s.now c.loop-b.b-index 0 c.loop-b-test.true in (
-      omega (arith, c.from.ensures, c.loop-b.invariant.0, step),
-      omega (arith, more, c.from.ensures, c.loop-b.invariant.1, digit.1),
-    )
-
-pub returns : goal.returns
-returns c = c.loop-b.invariant.0 ∙ ap number_written (take_all _ c.args.s.now c.loop-b-test.false)
+pub fold-requires-clause-callable : goal.fold-requires-clause-callable
+fold-requires-clause-callable c =
+    let road = YieldsList-from_slice c.args.s.now c.iter.ensures.rest in
+    serves_by _ (λ xs q. q.1 ≡ number_written (map (λ y. y.now) xs))
+    (λ xs q x v h called.
+    let step : v.1 ≡ q.1 * 10 + (x.now - 48) = search rules in
+    simp (map-append, fold_push) (omega (arith, h, step)))
+    _ _ _ _ refl
+    (λ xs t q x u before h so_far.
+    let turn = YieldsList-turn road xs t before (Some x) u x refl h in
+    let digit : Digit x.now = let at = c.requires.digits (length xs) x.now turn.0 in (omega arith, omega arith) in
+    let below = number_small c.args.s.now c.requires.digits (length xs) (omega arith) (omega arith) in
+    let small : q.1 < 1000000 = rw (so_far, YieldsList-so_far road xs t before) below in
+    search rules)

@@ -1,7 +1,0 @@
--- Every byte so far is a digit.
-use Rattle.std.proofs.Common.{ℕ, ◌<◌, get_or}
-use Rattle.command.specs.Grammar.{Digit}
-use Rattle.command.proofs.field.digits.Given as goal
-
-abbrev pub invariant-loop-i : goal.invariant-loop-i
-invariant-loop-i l = (k : ℕ) → k < l.i → Digit (get_or l.s k 0)
