@@ -1,5 +1,5 @@
 -- What a command does to the network, and what is replied. Assumes nothing.
-use Rattle.std.specs.Prelude.{◌≡◌, ℕ, List, Some, None, Option}
+use Rattle.std.specs.Prelude.{◌≡◌, ℕ, List, Some, None, Ok, Err, Option, Result, IsSomeAnd}
 use Rattle.vocabulary.specs.declared.refusal.Refusal.{Refusal}
 use Rattle.vocabulary.specs.declared.standing.Standing.{Standing}
 use Rattle.rules.specs.Links.{linking}
@@ -15,14 +15,14 @@ use Rattle.replies.specs.declared.reply.Reply.{Reply}
 use Rattle.replies.specs.declared.reply.Reply.TheVariants.{Done, Refused, Judged, Unreadable}
 use Rattle.check_sheet.specs.Setups.{SetupIs, setup_refusal, Begun}
 
--- there is one, and P is true of it
-abbrev pub ThereIs : (Setup → Type 0) → Option Setup → Type 0
-ThereIs P None = ⊥
-ThereIs P (Some s) = P s
+-- a call that was turned down is replied to by its refusal
+abbrev pub reply_of : Result Reply Refusal → Reply
+reply_of (Ok r) = r
+reply_of (Err e) = Refused e
 
 -- done, and P is true of what there is now; or refused, and all is as before
 abbrev pub Changed : Option Refusal → (Setup → Type 0) → Option Setup → Reply → Option Setup → Type 0
-Changed None P before r after = (r ≡ Done) × ThereIs P after
+Changed None P before r after = (r ≡ Done) × IsSomeAnd after P
 Changed (Some e) P before r after = (r ≡ Refused e) × (after ≡ before)
 
 -- how the set on the sheet stands, or the refusal

@@ -20,6 +20,5 @@ fn main(rt: HostRuntime) -> io::Result<()> {
     if let Some(reply) = session.end() {
         writeln!(out, "{reply}")?;
     }
-    let summary = session.summary();
-    writeln!(out, "{summary}")
+    writeln!(out, "{}", session.summary())
 }

@@ -34,10 +34,11 @@ impl Session {
         ensures { (bytes : List ℕ) → Gathered self.old.line bytes → Took self.old bytes byte result self.new }
     {
         if byte == b'\n' {
-            return Some(self.answer_line());
+            Some(self.answer_line())
+        } else {
+            self.line.push(byte);
+            None
         }
-        self.line.push(byte);
-        None
     }
 
     // Answers the last line, which ends with the input, unless nothing of it has come.
@@ -45,9 +46,10 @@ impl Session {
         ensures { (bytes : List ℕ) → Gathered self.old.line bytes → Ended self.old bytes result self.new }
     {
         if self.line.is_empty() {
-            return None;
+            None
+        } else {
+            Some(self.answer_line())
         }
-        Some(self.answer_line())
     }
 
     pub(crate) fn summary(&self) -> Summary
@@ -71,11 +73,8 @@ impl Session {
 fn reply_to(setup: &mut Option<Setup>, line: &LineBuffer) -> Reply
     ensures { (bytes : List ℕ) → Gathered line.now bytes → Replied setup.old bytes result setup.new }
 {
-    let Some(text) = line.text() else {
-        return Reply::Unreadable;
-    };
-    let Some(command) = parse(text) else {
-        return Reply::Unreadable;
-    };
-    answer(setup, command)
+    match line.text().and_then(parse) {
+        Some(command) => answer(setup, command),
+        None => Reply::Unreadable,
+    }
 }

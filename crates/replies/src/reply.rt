@@ -6,7 +6,7 @@ use vocabulary::refusal::Refusal;
 use vocabulary::standing::Standing;
 
 // What is replied to one line.
-#[derive(Clone, Copy)]
+#[derive(Clone, Copy, Debug, PartialEq, Eq)]
 pub enum Reply {
     Done,
     Refused(Refusal),
@@ -18,17 +18,10 @@ impl fmt::Display for Reply {
     ghost output = { λ reply. Some (reply_text reply) };
 
     fn fmt<W: fmt::Write>(&self, f: &mut fmt::Formatter<W>) -> fmt::Result {
-        match *self {
+        match self {
             Reply::Done => write!(f, "ok"),
-            Reply::Refused(refusal) => {
-                let number = refusal.number();
-                write!(f, "no {number}")
-            }
-            Reply::Judged(Standing::Empty) => write!(f, "empty"),
-            Reply::Judged(Standing::Unknown(a)) => write!(f, "unknown {a}"),
-            Reply::Judged(Standing::Loose(a)) => write!(f, "loose {a}"),
-            Reply::Judged(Standing::Apart(a, b)) => write!(f, "apart {a} {b}"),
-            Reply::Judged(Standing::Group) => write!(f, "group"),
+            Reply::Refused(refusal) => write!(f, "no {refusal}"),
+            Reply::Judged(standing) => write!(f, "{standing}"),
             Reply::Unreadable => write!(f, "?"),
         }
     }

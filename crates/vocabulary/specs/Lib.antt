@@ -1,2 +1,3 @@
-pub mod Refusals
 pub mod ModelKinds
+pub mod Refusals
+pub mod Standings

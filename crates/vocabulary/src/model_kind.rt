@@ -1,8 +1,5 @@
 ghost use Rattle.vocabulary.specs.ModelKinds.{NamesModel};
 
-use std::error::Error;
-use std::fmt;
-
 // The models of a group by name.
 #[derive(Clone, Copy, Debug, PartialEq, Eq)]
 pub enum ModelKind {
@@ -34,11 +31,3 @@ impl TryFrom<u8> for ModelKind {
         }
     }
 }
-
-impl fmt::Display for UnknownLetter {
-    fn fmt<W: fmt::Write>(&self, f: &mut fmt::Formatter<W>) -> fmt::Result {
-        write!(f, "no model has the letter {}", char::from(self.0))
-    }
-}
-
-impl Error for UnknownLetter {}

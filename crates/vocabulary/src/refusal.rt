@@ -1,5 +1,8 @@
-ghost use Rattle.std.specs.Prelude.{◌≡◌};
+ghost use Rattle.std.specs.Prelude.{◌≡◌, Some, decimal};
 ghost use Rattle.vocabulary.specs.Refusals.{refusal_number};
+
+use std::error::Error;
+use std::fmt;
 
 // Why a call was turned down. A call that answers one has changed nothing.
 #[derive(Clone, Copy, Debug, PartialEq, Eq)]
@@ -18,12 +21,12 @@ pub enum Refusal {
     BadParameter,
 }
 
-impl Refusal {
-    // The number by which users know the refusal.
-    pub fn number(self) -> u8
-        ensures { result ≡ refusal_number self }
-    {
-        match self {
+// The number by which users know the refusal.
+impl From<Refusal> for u8 {
+    ghost from_gives = { λ refusal number. number ≡ refusal_number refusal };
+
+    fn from(refusal: Refusal) -> u8 {
+        match refusal {
             Refusal::OutOfRange => 1,
             Refusal::SameMember => 2,
             Refusal::AlreadyLinked => 4,
@@ -34,3 +37,14 @@ impl Refusal {
         }
     }
 }
+
+// Users read the number alone.
+impl fmt::Display for Refusal {
+    ghost output = { λ refusal. Some (decimal (refusal_number refusal)) };
+
+    fn fmt<W: fmt::Write>(&self, f: &mut fmt::Formatter<W>) -> fmt::Result {
+        write!(f, "{}", u8::from(*self))
+    }
+}
+
+impl Error for Refusal {}

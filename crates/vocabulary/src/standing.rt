@@ -1,3 +1,8 @@
+ghost use Rattle.std.specs.Prelude.{Some};
+ghost use Rattle.vocabulary.specs.Standings.{standing_text};
+
+use std::fmt;
+
 // How a set stands in a network under a model: the first of these that is true of it.
 #[derive(Clone, Copy, Debug, PartialEq, Eq)]
 pub enum Standing {
@@ -9,4 +14,18 @@ pub enum Standing {
     // the smallest member, then the smallest above it, that do not pair in the set
     Apart(u32, u32),
     Group,
+}
+
+impl fmt::Display for Standing {
+    ghost output = { λ standing. Some (standing_text standing) };
+
+    fn fmt<W: fmt::Write>(&self, f: &mut fmt::Formatter<W>) -> fmt::Result {
+        match self {
+            Standing::Empty => write!(f, "empty"),
+            Standing::Unknown(a) => write!(f, "unknown {a}"),
+            Standing::Loose(a) => write!(f, "loose {a}"),
+            Standing::Apart(a, b) => write!(f, "apart {a} {b}"),
+            Standing::Group => write!(f, "group"),
+        }
+    }
 }
