@@ -15,7 +15,7 @@ use sets::member_set::MemberSet;
 use vocabulary::model_kind::ModelKind;
 use vocabulary::refusal::Refusal;
 
-// One of the models, where which one is known only when the program runs.
+/// One of the models, where which one is known only when the program runs.
 #[derive(Clone, Copy)]
 pub enum AnyModel {
     Plain(Plain),
@@ -26,7 +26,7 @@ pub enum AnyModel {
 }
 
 impl AnyModel {
-    // The model of that kind with the parameter t.
+    /// The model of that kind with the parameter t.
     pub fn new(kind: ModelKind, t: u32) -> Result<AnyModel, Refusal>
         ensures { ModelMade meaning_of kind t result }
     {

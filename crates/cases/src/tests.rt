@@ -4,19 +4,17 @@ use matrix::matrix::Matrix;
 use network::graph::Graph;
 use network::network::Network;
 use sets::member_set::MemberSet;
-use std::process::Abort;
 use std::test::Fail;
 use vocabulary::model_kind::ModelKind;
+use vocabulary::model_kind::ModelKind::{EdgeTriangle, Hereditary, Plain, Robust, VertexTriangle};
 use vocabulary::refusal::Refusal;
 use vocabulary::standing::Standing;
 use worked::example::Example;
 
 fn set_of(numbers: &[u32]) -> MemberSet {
-    let mut set = MemberSet::empty();
-    for a in numbers {
-        set = set.with(*a);
-    }
-    set
+    numbers
+        .iter()
+        .fold(MemberSet::empty(), |set, a| set.with(*a))
 }
 
 #[test]
@@ -36,15 +34,8 @@ fn sets_are_ordered_by_size_then_by_first_member(rt: HostRuntime) {
 
 #[test]
 fn members_come_in_ascending_order(rt: HostRuntime) {
-    let mut last = 0;
-    let mut count = 0u32;
-    for a in set_of(&[64, 9, 1, 30]).members() {
-        assert!(rt; last < a);
-        last = a;
-        count = count.saturating_add(1);
-    }
-    assert_eq!(rt; count, 4);
-    assert_eq!(rt; last, 64);
+    let members = set_of(&[64, 9, 1, 30]).members();
+    assert!(rt; members.eq([1, 9, 30, 64]));
 }
 
 #[test]
@@ -64,7 +55,7 @@ fn a_full_matrix_holds_every_link(rt: HostRuntime) -> Result<(), Fail> {
     Ok(())
 }
 
-// How the members named stand in the example under the model.
+/// How the members named stand in the example under the model.
 fn standing_in(
     example: Example,
     kind: ModelKind,
@@ -79,136 +70,52 @@ fn standing_in(
     Ok(check_group(&model, &Graph::of(&net), set_of(numbers)))
 }
 
-fn stands(
-    rt: &impl Abort,
-    example: Example,
-    kind: ModelKind,
-    t: u32,
-    numbers: &[u32],
-    known: Standing,
-) -> Result<(), Fail> {
-    assert_eq!(rt; standing_in(example, kind, t, numbers)?, known);
-    Ok(())
-}
-
 #[test]
 fn the_small_networks_stand_as_known(rt: HostRuntime) -> Result<(), Fail> {
-    let six = [1, 2, 3, 4, 5, 6];
-    let star = Example::Star;
-    stands(
-        &rt,
-        star,
-        ModelKind::Plain,
-        0,
-        &[1, 2, 3, 4, 5],
-        Standing::Group,
-    )?;
-    stands(
-        &rt,
-        star,
-        ModelKind::Plain,
-        0,
-        &[2, 3],
-        Standing::Apart(2, 3),
-    )?;
-    stands(
-        &rt,
-        star,
-        ModelKind::VertexTriangle,
-        0,
-        &[1, 2],
-        Standing::Loose(1),
-    )?;
-    let prism = Example::Prism;
-    stands(
-        &rt,
-        prism,
-        ModelKind::VertexTriangle,
-        0,
-        &six,
-        Standing::Group,
-    )?;
-    stands(
-        &rt,
-        prism,
-        ModelKind::EdgeTriangle,
-        0,
-        &six,
-        Standing::Apart(1, 4),
-    )?;
-    stands(
-        &rt,
-        prism,
-        ModelKind::EdgeTriangle,
-        0,
-        &[6, 5, 4],
-        Standing::Group,
-    )?;
-    stands(
-        &rt,
-        prism,
-        ModelKind::Robust,
-        2,
-        &[1, 2, 3],
-        Standing::Group,
-    )?;
-    stands(
-        &rt,
-        prism,
-        ModelKind::Robust,
-        3,
-        &[1, 2, 3],
-        Standing::Apart(1, 2),
-    )?;
-    let rows = Example::TwoRows;
-    stands(&rt, rows, ModelKind::Hereditary, 2, &six, Standing::Group)?;
-    stands(
-        &rt,
-        rows,
-        ModelKind::Hereditary,
-        3,
-        &six,
-        Standing::Apart(1, 2),
-    )?;
-    stands(&rt, rows, ModelKind::Robust, 1, &six, Standing::Group)?;
-    stands(&rt, rows, ModelKind::Robust, 2, &six, Standing::Apart(1, 4))?;
-    let path = Example::Path;
-    stands(
-        &rt,
-        path,
-        ModelKind::Plain,
-        0,
-        &[1, 3],
-        Standing::Apart(1, 3),
-    )?;
-    stands(
-        &rt,
-        path,
-        ModelKind::Plain,
-        0,
-        &[1, 4],
-        Standing::Unknown(4),
-    )?;
-    stands(&rt, path, ModelKind::Plain, 0, &[], Standing::Empty)
+    let (star, prism, rows, path) = (
+        Example::Star,
+        Example::Prism,
+        Example::TwoRows,
+        Example::Path,
+    );
+    let six: &[u32] = &[1, 2, 3, 4, 5, 6];
+    let known: [(Example, ModelKind, u32, &[u32], Standing); 15] = [
+        (star, Plain, 0, &[1, 2, 3, 4, 5], Standing::Group),
+        (star, Plain, 0, &[2, 3], Standing::Apart(2, 3)),
+        (star, VertexTriangle, 0, &[1, 2], Standing::Loose(1)),
+        (prism, VertexTriangle, 0, six, Standing::Group),
+        (prism, EdgeTriangle, 0, six, Standing::Apart(1, 4)),
+        (prism, EdgeTriangle, 0, &[6, 5, 4], Standing::Group),
+        (prism, Robust, 2, &[1, 2, 3], Standing::Group),
+        (prism, Robust, 3, &[1, 2, 3], Standing::Apart(1, 2)),
+        (rows, Hereditary, 2, six, Standing::Group),
+        (rows, Hereditary, 3, six, Standing::Apart(1, 2)),
+        (rows, Robust, 1, six, Standing::Group),
+        (rows, Robust, 2, six, Standing::Apart(1, 4)),
+        (path, Plain, 0, &[1, 3], Standing::Apart(1, 3)),
+        (path, Plain, 0, &[1, 4], Standing::Unknown(4)),
+        (path, Plain, 0, &[], Standing::Empty),
+    ];
+    for (example, kind, t, numbers, standing) in known {
+        assert_eq!(rt; standing_in(example, kind, t, numbers)?, standing);
+    }
+    Ok(())
 }
 
 #[test]
-fn a_parameter_out_of_range_makes_no_model(rt: HostRuntime) -> Result<(), Fail> {
-    let refused = Err(Refusal::BadParameter);
-    let path = Example::Path;
-    assert_eq!(rt; standing_in(path, ModelKind::Plain, 1, &[1]), refused);
-    assert_eq!(rt; standing_in(path, ModelKind::Robust, 0, &[1]), refused);
-    stands(&rt, path, ModelKind::Robust, 64, &[1], Standing::Group)?;
-    assert_eq!(rt; standing_in(path, ModelKind::Robust, 65, &[1]), refused);
-    stands(&rt, path, ModelKind::Hereditary, 63, &[1], Standing::Group)?;
-    assert_eq!(rt; standing_in(path, ModelKind::Hereditary, 64, &[1]), refused);
-    assert_eq!(rt;
-        standing_in(path, ModelKind::VertexTriangle, 1, &[1]),
-        refused
-    );
-    assert_eq!(rt;
-        standing_in(path, ModelKind::EdgeTriangle, 1, &[1]),
-        refused
-    );
-    Ok(())
+fn a_parameter_out_of_range_makes_no_model(rt: HostRuntime) {
+    let (taken, refused) = (Ok(Standing::Group), Err(Refusal::BadParameter));
+    let known = [
+        (Plain, 1, refused),
+        (Robust, 0, refused),
+        (Robust, 64, taken),
+        (Robust, 65, refused),
+        (Hereditary, 63, taken),
+        (Hereditary, 64, refused),
+        (VertexTriangle, 1, refused),
+        (EdgeTriangle, 1, refused),
+    ];
+    for (kind, t, outcome) in known {
+        assert_eq!(rt; standing_in(Example::Path, kind, t, &[1]), outcome);
+    }
 }

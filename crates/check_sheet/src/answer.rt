@@ -8,14 +8,14 @@ use network::network::Network;
 use replies::reply::Reply;
 use vocabulary::refusal::Refusal;
 
-// What a command does to the network, and what is replied.
+/// What a command does to the network, and what is replied.
 pub(crate) fn answer(setup: &mut Option<Setup>, command: Command) -> Reply
     ensures { Answered setup.old (says command) result setup.new }
 {
     carry_out(setup, command).unwrap_or_else(Reply::Refused)
 }
 
-// Network and model are made once, and before all else.
+/// Network and model are made once, and before all else.
 fn carry_out(setup: &mut Option<Setup>, command: Command) -> Result<Reply, Refusal>
     ensures { Answered setup.old (says command) (reply_of result) setup.new }
 {

@@ -10,7 +10,7 @@ use lines::line_buffer::LineBuffer;
 use replies::reply::Reply;
 use replies::summary::Summary;
 
-// What stands between two bytes of the input: the network with its model, the line so far and the replies so far.
+/// What stands between two bytes of the input: the network with its model, the line so far and the replies so far.
 #[derive(Drop)]
 pub struct Session {
     setup: Option<Setup>,
@@ -29,7 +29,7 @@ impl Session {
         }
     }
 
-    // Takes one byte of the input, and answers the line that it ends, if it ends one.
+    /// Takes one byte of the input, and answers the line that it ends, if it ends one.
     pub(crate) fn take(&mut self, byte: u8) -> Option<Reply>
         ensures { (bytes : List ℕ) → Gathered self.old.line bytes → Took self.old bytes byte result self.new }
     {
@@ -41,7 +41,7 @@ impl Session {
         }
     }
 
-    // Answers the last line, which ends with the input, unless nothing of it has come.
+    /// Answers the last line, which ends with the input, unless nothing of it has come.
     pub(crate) fn end(&mut self) -> Option<Reply>
         ensures { (bytes : List ℕ) → Gathered self.old.line bytes → Ended self.old bytes result self.new }
     {
@@ -58,7 +58,7 @@ impl Session {
         self.summary
     }
 
-    // Answers the line so far, and begins another.
+    /// Answers the line so far, and begins another.
     fn answer_line(&mut self) -> Reply
         ensures { (bytes : List ℕ) → Gathered self.old.line bytes → LineAnswered self.old bytes result self.new }
     {
@@ -69,7 +69,7 @@ impl Session {
     }
 }
 
-// What one line does to the network, and what is replied.
+/// What one line does to the network, and what is replied.
 fn reply_to(setup: &mut Option<Setup>, line: &LineBuffer) -> Reply
     ensures { (bytes : List ℕ) → Gathered line.now bytes → Replied setup.old bytes result setup.new }
 {

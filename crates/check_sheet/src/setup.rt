@@ -6,7 +6,7 @@ use network::network::Network;
 use vocabulary::model_kind::ModelKind;
 use vocabulary::refusal::Refusal;
 
-// A network, and the model that says what its groups are.
+/// A network, and the model that says what its groups are.
 #[derive(Drop)]
 pub struct Setup {
     pub(crate) net: Matrix,
@@ -14,7 +14,7 @@ pub struct Setup {
 }
 
 impl Setup {
-    // A network of n members without links, and the model. The network's refusals are tried before the model's.
+    /// A network of n members without links, and the model. The network's refusals are tried before the model's.
     pub(crate) fn new(n: u32, kind: ModelKind, t: u32) -> Result<Setup, Refusal>
         ensures { SetupMade n kind t result }
     {

@@ -5,17 +5,17 @@ ghost use Rattle.vocabulary.specs.declared.model_kind.ModelKind.{ModelKind};
 
 use vocabulary::model_kind::ModelKind;
 
-// A number has at most so many digits.
+/// A number has at most so many digits.
 const MOST_DIGITS: usize = 7;
 
-// What stands behind the space in front.
+/// What stands behind the space in front.
 pub(crate) fn after_space(s: &[u8]) -> Option<&[u8]>
     ensures { elim result [ Some rest ↦ s.now ≡ 32 ∷ rest.now | None ↦ ((rest : List ℕ) → s.now ≢ 32 ∷ rest) ] }
 {
     s.strip_prefix(b" ")
 }
 
-// How many digits stand in front.
+/// How many digits stand in front.
 fn digits(s: &[u8]) -> usize
     ensures { Counted s.now result }
 {
@@ -24,7 +24,7 @@ fn digits(s: &[u8]) -> usize
         .unwrap_or(s.len())
 }
 
-// The number that the digits write.
+/// The number that the digits write.
 fn value(s: &[u8]) -> u32
     requires few { length s.now ≤ 7 }
     requires digits { All Digit s.now }
@@ -33,7 +33,7 @@ fn value(s: &[u8]) -> u32
     s.iter().fold(0, |v, b| v * 10 + u32::from(*b - b'0'))
 }
 
-// One space and one to seven digits, with what is left behind the last digit.
+/// One space and one to seven digits, with what is left behind the last digit.
 pub(crate) fn field(s: &[u8]) -> Option<(u32, &[u8])>
     ensures { elim result [ Some x ↦ Field s.now x.0 x.1.now | None ↦ ((x : ℕ) (more : List ℕ) → Field s.now x more → ⊥) ] }
 {
@@ -46,7 +46,7 @@ pub(crate) fn field(s: &[u8]) -> Option<(u32, &[u8])>
     Some((value(front), after))
 }
 
-// One space and one to seven digits, with nothing behind them.
+/// One space and one to seven digits, with nothing behind them.
 pub(crate) fn last_field(s: &[u8]) -> Option<u32>
     ensures { elim result [ Some x ↦ Field s.now x [] | None ↦ ((x : ℕ) → Field s.now x [] → ⊥) ] }
 {
@@ -56,7 +56,7 @@ pub(crate) fn last_field(s: &[u8]) -> Option<u32>
     }
 }
 
-// One space and one model letter, with what is left behind it.
+/// One space and one model letter, with what is left behind it.
 pub(crate) fn model_field(s: &[u8]) -> Option<(ModelKind, &[u8])>
     ensures { elim result [ Some x ↦ ModelField s.now x.0 x.1.now | None ↦ ((m : ModelKind) (more : List ℕ) → ModelField s.now m more → ⊥) ] }
 {

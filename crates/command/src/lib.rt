@@ -12,19 +12,19 @@ use field::{field, last_field, model_field};
 use lines::LONGEST;
 use vocabulary::model_kind::ModelKind;
 
-// No line has more numbers, since each takes two bytes at least.
+/// No line has more numbers, since each takes two bytes at least.
 pub const MOST_NUMBERS: usize = LONGEST / 2;
 
-// What a line asks for.
+/// What a line asks for.
 #[derive(Debug, Drop)]
 pub enum Command {
     Network { n: u32, model: ModelKind, t: u32 },
     Link(u32, u32),
-    // the numbers, in the order given
+    /// the numbers, in the order given
     Sheet(ArrayVec<u8, MOST_NUMBERS>),
 }
 
-// What `N` is followed by: a number, a model and the model's parameter.
+/// What `N` is followed by: a number, a model and the model's parameter.
 fn network_of(fields: &[u8]) -> Option<Command>
     ensures { Spells (λ c. Form c (78 ∷ fields.now)) result }
 {
@@ -34,7 +34,7 @@ fn network_of(fields: &[u8]) -> Option<Command>
     Some(Command::Network { n, model, t })
 }
 
-// What `L` is followed by: two numbers.
+/// What `L` is followed by: two numbers.
 fn link_of(fields: &[u8]) -> Option<Command>
     ensures { Spells (λ c. Form c (76 ∷ fields.now)) result }
 {
@@ -43,7 +43,7 @@ fn link_of(fields: &[u8]) -> Option<Command>
     Some(Command::Link(a, b))
 }
 
-// What `K` is followed by: any number of numbers, each of one byte.
+/// What `K` is followed by: any number of numbers, each of one byte.
 fn sheet_of(fields: &[u8]) -> Option<Command>
     requires { length fields.now < 1000 }
     ensures { Spells (λ c. Form c (75 ∷ fields.now)) result }
@@ -58,7 +58,7 @@ fn sheet_of(fields: &[u8]) -> Option<Command>
     Some(Command::Sheet(numbers))
 }
 
-// The command that a line spells, if it spells one.
+/// The command that a line spells, if it spells one.
 pub fn parse(line: &[u8]) -> Option<Command>
     ensures { Reads line.now result }
 {

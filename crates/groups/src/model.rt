@@ -6,15 +6,15 @@ ghost use Rattle.network.specs.Graphs.{links_of};
 use network::graph::Graph;
 use sets::member_set::MemberSet;
 
-// A model answers two questions about the members of a set; its meaning is these answers.
+/// A model answers two questions about the members of a set; its meaning is these answers.
 pub trait GroupModel {
     ghost meaning: { Self → Meaning };
 
-    // Whether the member a fits the set.
+    /// Whether the member a fits the set.
     fn fits(&self, graph: &Graph, set: MemberSet, a: u32) -> bool
         ensures { result ≡ (meaning self.now).fits (links_of graph.now) set.word a };
 
-    // Whether the two different members a and b pair in the set.
+    /// Whether the two different members a and b pair in the set.
     fn pair(&self, graph: &Graph, set: MemberSet, a: u32, b: u32) -> bool
         ensures { result ≡ (meaning self.now).pairs (links_of graph.now) set.word a b };
 

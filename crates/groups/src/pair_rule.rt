@@ -6,7 +6,7 @@ use crate::model::GroupModel;
 use network::graph::Graph;
 use sets::member_set::MemberSet;
 
-// A rule by which two members of a set pair, from whether they are linked and how many members of the set they share.
+/// A rule by which two members of a set pair, from whether they are linked and how many members of the set they share.
 pub trait PairRule {
     ghost enough: { Self → Bool → ℕ → Bool };
 

@@ -9,7 +9,7 @@ use sets::member_set::MemberSet;
 use vocabulary::refusal::Refusal;
 use vocabulary::standing::Standing;
 
-// The set of members that a sheet names, one number each in any order.
+/// The set of members that a sheet names, one number each in any order.
 pub fn read_sheet(graph: &Graph, sheet: &[u8]) -> Result<MemberSet, Refusal>
     ensures { SheetRead (members_of graph.now) sheet.now result }
 {
@@ -31,7 +31,7 @@ pub fn read_sheet(graph: &Graph, sheet: &[u8]) -> Result<MemberSet, Refusal>
     Ok(named)
 }
 
-// How the sheet's set stands in the network as it is now.
+/// How the sheet's set stands in the network as it is now.
 pub fn judge_sheet<N: Network, M: GroupModel>(
     net: &N,
     model: &M,

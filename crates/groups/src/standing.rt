@@ -7,14 +7,14 @@ use network::graph::Graph;
 use sets::member_set::MemberSet;
 use vocabulary::standing::Standing;
 
-// The smallest member of the set that does not fit it.
+/// The smallest member of the set that does not fit it.
 pub fn first_loose<M: GroupModel>(model: &M, graph: &Graph, set: MemberSet) -> Option<u32>
     ensures { FirstLoose (links_of graph.now) (M.GroupModel.meaning model.now) set.word result }
 {
     set.members().find(|a| !model.fits(graph, set, *a))
 }
 
-// The smallest member of the set, then the smallest above it, that do not pair in the set.
+/// The smallest member of the set, then the smallest above it, that do not pair in the set.
 pub fn first_unpaired<M: GroupModel>(model: &M, graph: &Graph, set: MemberSet) -> Option<(u32, u32)>
     ensures { FirstUnpaired (links_of graph.now) (M.GroupModel.meaning model.now) set.word result }
 {
@@ -26,7 +26,7 @@ pub fn first_unpaired<M: GroupModel>(model: &M, graph: &Graph, set: MemberSet) -
     None
 }
 
-// The smallest member of the set above a that does not pair with a in the set.
+/// The smallest member of the set above a that does not pair with a in the set.
 fn first_apart<M: GroupModel>(model: &M, graph: &Graph, set: MemberSet, a: u32) -> Option<u32>
     ensures { FirstAbove (links_of graph.now) (M.GroupModel.meaning model.now) set.word a result }
 {
@@ -35,7 +35,7 @@ fn first_apart<M: GroupModel>(model: &M, graph: &Graph, set: MemberSet, a: u32) 
         .find(|b| !model.pair(graph, set, a, *b))
 }
 
-// How the set stands in the network under the model: a group of it, or the first thing that is wrong.
+/// How the set stands in the network under the model: a group of it, or the first thing that is wrong.
 pub fn check_group<M: GroupModel>(model: &M, graph: &Graph, set: MemberSet) -> Standing
     ensures { StandsOnly (members_of graph.now) (links_of graph.now) (M.GroupModel.meaning model.now) set.word result }
 {

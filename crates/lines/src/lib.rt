@@ -3,5 +3,5 @@
 
 pub mod line_buffer;
 
-// No readable line is longer.
+/// No readable line is longer.
 pub const LONGEST: usize = 1000;

@@ -4,7 +4,7 @@ ghost use Rattle.network.specs.Graphs.{members_of, links_of};
 
 use network::graph::Graph;
 
-// The links as rows of sets, and their number.
+/// The links as rows of sets, and their number.
 #[derive(Clone, Copy)]
 pub struct Matrix {
     pub(crate) graph: Graph,

@@ -8,7 +8,7 @@ use groups::pair_rule::PairRule;
 use vocabulary::model_kind::ModelKind;
 use vocabulary::refusal::Refusal;
 
-// The edge triangle model: two members pair when they share a member of the set, linked or not. So every link of a group lies in a triangle.
+/// The edge triangle model: two members pair when they share a member of the set, linked or not. So every link of a group lies in a triangle.
 #[derive(Clone, Copy)]
 pub struct EdgeTriangle;
 

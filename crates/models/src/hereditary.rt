@@ -8,7 +8,7 @@ use groups::pair_rule::PairRule;
 use vocabulary::model_kind::ModelKind;
 use vocabulary::refusal::Refusal;
 
-// The hereditary model, whose groups stay 2-clubs whoever leaves, up to t members: two members pair when linked or when they share more than t members of the set.
+/// The hereditary model, whose groups stay 2-clubs whoever leaves, up to t members: two members pair when linked or when they share more than t members of the set.
 #[derive(Clone, Copy)]
 pub struct Hereditary {
     t: u32,

@@ -4,11 +4,11 @@ ghost use Rattle.rules.specs.Kinds.{ModelMade};
 use groups::model::GroupModel;
 use vocabulary::refusal::Refusal;
 
-// A model that has a name, and is made from its parameter.
+/// A model that has a name, and is made from its parameter.
 pub trait NamedModel: GroupModel + Sized {
     ghost kind: { ModelKind };
 
-    // The model with the parameter t, if it takes it.
+    /// The model with the parameter t, if it takes it.
     fn new(t: u32) -> Result<Self, Refusal>
         ensures { ModelMade Self.meaning kind t result };
 }

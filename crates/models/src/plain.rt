@@ -8,7 +8,7 @@ use groups::pair_rule::PairRule;
 use vocabulary::model_kind::ModelKind;
 use vocabulary::refusal::Refusal;
 
-// The plain model, whose groups are the 2-clubs: two members pair when linked or when they share a member of the set.
+/// The plain model, whose groups are the 2-clubs: two members pair when linked or when they share a member of the set.
 #[derive(Clone, Copy)]
 pub struct Plain;
 

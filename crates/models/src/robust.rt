@@ -8,7 +8,7 @@ use groups::pair_rule::PairRule;
 use vocabulary::model_kind::ModelKind;
 use vocabulary::refusal::Refusal;
 
-// The robust model: two members pair when t paths of at most two links join them that share nothing but their ends. A link is one such path, each shared member another.
+/// The robust model: two members pair when t paths of at most two links join them that share nothing but their ends. A link is one such path, each shared member another.
 #[derive(Clone, Copy)]
 pub struct Robust {
     t: u32,

@@ -13,7 +13,7 @@ use sets::member_set::MemberSet;
 use vocabulary::model_kind::ModelKind;
 use vocabulary::refusal::Refusal;
 
-// The vertex triangle model: a member fits when it lies in a triangle of the set, and two pair as in plain.
+/// The vertex triangle model: a member fits when it lies in a triangle of the set, and two pair as in plain.
 #[derive(Clone, Copy)]
 pub struct VertexTriangle;
 
@@ -40,7 +40,7 @@ impl NamedModel for VertexTriangle {
     }
 }
 
-// Whether two members of the set are linked to a and to each other.
+/// Whether two members of the set are linked to a and to each other.
 fn in_triangle(graph: &Graph, set: MemberSet, a: u32) -> bool
     ensures { result ≡ in_triangle (links_of graph.now) set.word a }
 {

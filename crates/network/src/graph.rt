@@ -8,7 +8,7 @@ mod editing;
 mod reading;
 mod taking;
 
-// The links of a network at one moment, as models read them: the row of member a has those linked to a.
+/// The links of a network at one moment, as models read them: the row of member a has those linked to a.
 #[derive(Clone, Copy)]
 pub struct Graph {
     members: u32,

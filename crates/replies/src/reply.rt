@@ -5,7 +5,7 @@ use std::fmt;
 use vocabulary::refusal::Refusal;
 use vocabulary::standing::Standing;
 
-// What is replied to one line.
+/// What is replied to one line.
 #[derive(Clone, Copy, Debug, PartialEq, Eq)]
 pub enum Reply {
     Done,

@@ -5,7 +5,7 @@ use crate::reply::Reply;
 use std::fmt;
 use vocabulary::standing::Standing;
 
-// How often each kind of reply was given.
+/// How often each kind of reply was given.
 #[derive(Clone, Copy, Debug, PartialEq, Eq)]
 pub struct Summary {
     groups: u64,
@@ -26,7 +26,7 @@ impl Summary {
         }
     }
 
-    // Counts one reply.
+    /// Counts one reply.
     pub fn note(&mut self, reply: Reply)
         ensures { self.new ≡ noted reply self.old }
     {
@@ -40,7 +40,7 @@ impl Summary {
     }
 }
 
-// A count that is as high as it can be stays there.
+/// A count that is as high as it can be stays there.
 fn one_more(count: &mut u64)
     ensures { count.new ≡ more count.old }
 {

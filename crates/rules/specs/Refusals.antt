@@ -44,24 +44,24 @@ abbrev pub Made : {N : Type 0} → (N → ℕ) → (N → Links) → ℕ → Res
 Made members links n (Ok net) = (making_refusal n ≡ None) × (members net ≡ n) × (links net ≡ no_links)
 Made members links n (Err e) = making_refusal n ≡ Some e
 
+-- done, and the links found are those after it; or turned down with the refusal, and they are as before
+abbrev pub Edited : Option Refusal → Links → Links → Links → Result (Unit {0}) Refusal → Type 0
+Edited refusal before after found (Ok _) = (refusal ≡ None) × (found ≡ after)
+Edited refusal before after found (Err e) = (refusal ≡ Some e) × (found ≡ before)
+
 -- the links k after a link or an unlink that found the links l
 abbrev pub AfterLink : ℕ → ℕ → Links → ℕ → ℕ → Links → Result (Unit {0}) Refusal → Type 0
-AfterLink n room l a b k (Ok _) = (link_refusal n room l a b ≡ None) × (k ≡ linking a b l)
-AfterLink n room l a b k (Err e) = (link_refusal n room l a b ≡ Some e) × (k ≡ l)
+AfterLink n room l a b k r = Edited (link_refusal n room l a b) l (linking a b l) k r
 
 abbrev pub AfterUnlink : ℕ → Links → ℕ → ℕ → Links → Result (Unit {0}) Refusal → Type 0
-AfterUnlink n l a b k (Ok _) = (unlink_refusal n l a b ≡ None) × (k ≡ unlinking a b l)
-AfterUnlink n l a b k (Err e) = (unlink_refusal n l a b ≡ Some e) × (k ≡ l)
+AfterUnlink n l a b k r = Edited (unlink_refusal n l a b) l (unlinking a b l) k r
 
--- the links k after two members were linked, whether or not they were, of a network with the links l
+-- the same of two members that are joined or parted whether or not they were linked
 abbrev pub Connected : ℕ → Links → ℕ → ℕ → Links → Result (Unit {0}) Refusal → Type 0
-Connected n l a b k (Ok _) = (ends_refusal n a b None ≡ None) × (k ≡ linking a b l)
-Connected n l a b k (Err e) = (ends_refusal n a b None ≡ Some e) × (k ≡ l)
+Connected n l a b k r = Edited (ends_refusal n a b None) l (linking a b l) k r
 
--- the same where their link was taken away
 abbrev pub Disconnected : ℕ → Links → ℕ → ℕ → Links → Result (Unit {0}) Refusal → Type 0
-Disconnected n l a b k (Ok _) = (ends_refusal n a b None ≡ None) × (k ≡ unlinking a b l)
-Disconnected n l a b k (Err e) = (ends_refusal n a b None ≡ Some e) × (k ≡ l)
+Disconnected n l a b k r = Edited (ends_refusal n a b None) l (unlinking a b l) k r
 
 -- a place is free again after a taken unlink
 abbrev pub Freed : ℕ → ℕ → Links → Result (Unit {0}) Refusal → Type 0

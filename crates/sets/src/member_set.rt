@@ -5,7 +5,7 @@ ghost use Rattle.sets.specs.Words.{word_of};
 
 use crate::members::Members;
 
-// A set of members 1 to 64: member a stands at the binary digit a - 1 of the word.
+/// A set of members 1 to 64: member a stands at the binary digit a - 1 of the word.
 #[derive(Clone, Copy, PartialEq, Eq, Debug)]
 pub struct MemberSet {
     word: u64,
@@ -19,7 +19,7 @@ impl MemberSet {
         MemberSet { word: 0 }
     }
 
-    // All members 1 to n, or 1 to 64 where n is larger.
+    /// All members 1 to n, or 1 to 64 where n is larger.
     #[tactic(auto, using(rules::proofs::Digits::has_up_to))]
     pub fn up_to(n: u32) -> MemberSet
         ensures { (a : ℕ) → has result.word a ≡ (inside n a && inside 64 a) }
@@ -32,7 +32,7 @@ impl MemberSet {
         }
     }
 
-    // No number outside 1 to 64 is in any set.
+    /// No number outside 1 to 64 is in any set.
     #[tactic(auto, using(rules::proofs::Members::has_digit, rules::proofs::Members::word_set, rules::proofs::Members::same_members))]
     pub fn has(self, a: u32) -> bool
         ensures value { result ≡ has self.word a }
@@ -42,14 +42,14 @@ impl MemberSet {
         self.word & digit(a) != 0
     }
 
-    // Whether a and b are two different members.
+    /// Whether a and b are two different members.
     pub fn has_two(self, a: u32, b: u32) -> bool
         ensures { result ≡ two_of self.word a b }
     {
         self.has(a) && self.has(b) && a != b
     }
 
-    // The set and a; the set itself where a is no number of a member.
+    /// The set and a; the set itself where a is no number of a member.
     #[tactic(auto, using(rules::proofs::Digits::has_or))]
     pub fn with(self, a: u32) -> MemberSet
         ensures { (b : ℕ) → has result.word b ≡ ((b == a && inside 64 a) || has self.word b) }
@@ -86,7 +86,7 @@ impl MemberSet {
         }
     }
 
-    // The members numbered above a.
+    /// The members numbered above a.
     #[tactic(auto, using(rules::proofs::Members::word_set))]
     pub fn above(self, a: u32) -> MemberSet
         ensures { (b : ℕ) → has result.word b ≡ (has self.word b && nat_lt a b) }
@@ -94,7 +94,7 @@ impl MemberSet {
         self.difference(MemberSet::up_to(a))
     }
 
-    // The members of one of the two and not of both.
+    /// The members of one of the two and not of both.
     #[tactic(auto, using(rules::proofs::Digits::has_xor))]
     pub fn symmetric_difference(self, other: MemberSet) -> MemberSet
         ensures { (a : ℕ) → has result.word a ≡ differs (has self.word a) (has other.word a) }
@@ -135,14 +135,14 @@ impl MemberSet {
         Some(self.word.trailing_zeros() + 1)
     }
 
-    // The members one by one, in ascending order.
+    /// The members one by one, in ascending order.
     pub fn members(self) -> Members
         ensures { result.rest ≡ self }
     {
         Members { rest: self }
     }
 
-    // Whether the set has more members, or as many and the smallest member in which the two differ.
+    /// Whether the set has more members, or as many and the smallest member in which the two differ.
     #[tactic(auto, using(rules::proofs::Order::order_laws, rules::proofs::Order::first_decides))]
     pub fn is_better_than(self, other: MemberSet) -> bool
         ensures value { Tells result (Better self.word other.word) }
@@ -158,7 +158,7 @@ impl MemberSet {
             .is_some_and(|first| self.has(first))
     }
 
-    // Whether the set is better than the best so far; with none so far, whether it has a member.
+    /// Whether the set is better than the best so far; with none so far, whether it has a member.
     #[tactic(auto, using(rules::proofs::Members::some_tells))]
     pub fn beats(self, best: Option<MemberSet>) -> bool
         ensures { Tells result (Beats self.word (word_of best)) }
@@ -170,7 +170,7 @@ impl MemberSet {
     }
 }
 
-// The digit at which the member a stands; none where a is no number of a member.
+/// The digit at which the member a stands; none where a is no number of a member.
 #[tactic(auto, using(rules::proofs::Digits::has_one, rules::proofs::Digits::nobody))]
 fn digit(a: u32) -> u64
     ensures { (b : ℕ) → has result b ≡ (b == a && inside 64 a) }

@@ -4,7 +4,7 @@ ghost use Rattle.std.specs.Iterator.{at_most};
 
 use crate::member_set::MemberSet;
 
-// The members of a set that are still to come, the smallest first.
+/// The members of a set that are still to come, the smallest first.
 #[derive(Clone, Copy)]
 pub struct Members {
     pub rest: MemberSet,

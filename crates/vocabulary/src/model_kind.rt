@@ -1,6 +1,6 @@
 ghost use Rattle.vocabulary.specs.ModelKinds.{NamesModel};
 
-// The models of a group by name.
+/// The models of a group by name.
 #[derive(Clone, Copy, Debug, PartialEq, Eq)]
 pub enum ModelKind {
     Plain,
@@ -10,7 +10,7 @@ pub enum ModelKind {
     EdgeTriangle,
 }
 
-// A letter that names no model.
+/// A letter that names no model.
 #[derive(Clone, Copy, Debug, PartialEq, Eq)]
 pub struct UnknownLetter(pub u8);
 

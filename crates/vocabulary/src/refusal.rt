@@ -4,20 +4,20 @@ ghost use Rattle.vocabulary.specs.Refusals.{refusal_number};
 use std::error::Error;
 use std::fmt;
 
-// Why a call was turned down. A call that answers one has changed nothing.
+/// Why a call was turned down. A call that answers one has changed nothing.
 #[derive(Clone, Copy, Debug, PartialEq, Eq)]
 pub enum Refusal {
-    // a number outside its range: a member that the network does not have, or a size that no network has
+    /// a number outside its range: a member that the network does not have, or a size that no network has
     OutOfRange,
-    // one member named as both ends of a link
+    /// one member named as both ends of a link
     SameMember,
     AlreadyLinked,
     NotLinked,
-    // the network holds as many links as its kind has room for
+    /// the network holds as many links as its kind has room for
     NoRoom,
-    // a sheet that names nobody, or somebody twice
+    /// a sheet that names nobody, or somebody twice
     BadSheet,
-    // a parameter that the model does not take
+    /// a parameter that the model does not take
     BadParameter,
 }
 

@@ -3,15 +3,15 @@ ghost use Rattle.vocabulary.specs.Standings.{standing_text};
 
 use std::fmt;
 
-// How a set stands in a network under a model: the first of these that is true of it.
+/// How a set stands in a network under a model: the first of these that is true of it.
 #[derive(Clone, Copy, Debug, PartialEq, Eq)]
 pub enum Standing {
     Empty,
-    // the smallest member of the set that is none of the network
+    /// the smallest member of the set that is none of the network
     Unknown(u32),
-    // the smallest member that does not fit the set
+    /// the smallest member that does not fit the set
     Loose(u32),
-    // the smallest member, then the smallest above it, that do not pair in the set
+    /// the smallest member, then the smallest above it, that do not pair in the set
     Apart(u32, u32),
     Group,
 }

@@ -8,7 +8,7 @@ use sets::member_set::MemberSet;
 use vocabulary::refusal::Refusal;
 
 impl Graph {
-    // A graph of n members without links.
+    /// A graph of n members without links.
     pub fn new(n: u32) -> Result<Graph, Refusal>
         ensures { Made members_of links_of n result }
     {
@@ -21,7 +21,7 @@ impl Graph {
         })
     }
 
-    // Links two members, whether or not they were linked.
+    /// Links two members, whether or not they were linked.
     pub fn connect(&mut self, a: u32, b: u32) -> Result<(), Refusal>
         ensures after { Connected (members_of self.old) (links_of self.old) a b (links_of self.new) result }
         ensures members { members_of self.new ≡ members_of self.old }
@@ -34,7 +34,7 @@ impl Graph {
         Ok(())
     }
 
-    // Takes the link of two members away, if they were linked.
+    /// Takes the link of two members away, if they were linked.
     pub fn disconnect(&mut self, a: u32, b: u32) -> Result<(), Refusal>
         ensures after { Disconnected (members_of self.old) (links_of self.old) a b (links_of self.new) result }
         ensures members { members_of self.new ≡ members_of self.old }

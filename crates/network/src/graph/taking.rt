@@ -7,7 +7,7 @@ use crate::network::Network;
 use sets::member_set::MemberSet;
 
 impl Graph {
-    // The links of any network as it stands.
+    /// The links of any network as it stands.
     pub fn of<N: Network>(net: &N) -> Graph
         ensures members { members_of result ≡ N.Network.members net.now }
         ensures links { links_of result ≡ N.Network.links net.now }
@@ -21,7 +21,7 @@ impl Graph {
     }
 }
 
-// The members linked to a.
+/// The members linked to a.
 fn linked_to<N: Network>(net: &N, a: u32) -> MemberSet
     ensures { (b : ℕ) → has result.word b ≡ N.Network.links net.now a b }
 {

@@ -5,7 +5,7 @@ ghost use Rattle.worked.specs.Examples.{network_of};
 use crate::example::Example;
 
 impl Example {
-    // How many members there are.
+    /// How many members there are.
     pub fn members(self) -> u32
         ensures { result ≡ (network_of self).members }
     {
@@ -16,7 +16,7 @@ impl Example {
         }
     }
 
-    // The links, each once, by its two ends.
+    /// The links, each once, by its two ends.
     pub fn links(self) -> &'static [(u32, u32)]
         ensures value { result.now ≡ (network_of self).links }
         ensures facts { WorkedFacts }
