@@ -9,7 +9,7 @@ pub(crate) fn check_parameter(kind: ModelKind, t: u32) -> Result<(), Refusal>
     ensures { Checks (parameter_refusal kind t) result }
 {
     let in_range = match kind {
-        ModelKind::Robust => t >= 1 && t <= 64,
+        ModelKind::Robust => (1..=64).contains(&t),
         ModelKind::Hereditary => t <= 63,
         ModelKind::Plain | ModelKind::VertexTriangle | ModelKind::EdgeTriangle => t == 0,
     };

@@ -7,7 +7,7 @@ use vocabulary::refusal::Refusal;
 pub fn check_ends(n: u32, a: u32, b: u32) -> Result<(), Refusal>
     ensures { Checks (ends_refusal n a b None) result }
 {
-    if a < 1 || a > n || b < 1 || b > n {
+    if !(1..=n).contains(&a) || !(1..=n).contains(&b) {
         return Err(Refusal::OutOfRange);
     }
     if a == b {

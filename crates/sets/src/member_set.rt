@@ -175,5 +175,9 @@ impl MemberSet {
 fn digit(a: u32) -> u64
     ensures { (b : ℕ) → has result b ≡ (b == a && inside 64 a) }
 {
-    if a < 1 || a > 64 { 0 } else { 1 << (a - 1) }
+    if (1..=64).contains(&a) {
+        1 << (a - 1)
+    } else {
+        0
+    }
 }

@@ -12,7 +12,7 @@ impl Graph {
     pub fn new(n: u32) -> Result<Graph, Refusal>
         ensures { Made members_of links_of n result }
     {
-        if n < 1 || n > 64 {
+        if !(1..=64).contains(&n) {
             return Err(Refusal::OutOfRange);
         }
         Ok(Graph {

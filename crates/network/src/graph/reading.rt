@@ -19,10 +19,11 @@ impl Graph {
     pub fn neighbours(&self, a: u32) -> MemberSet
         ensures { (b : ℕ) → has result.word b ≡ links_of self.now a b }
     {
-        if a < 1 || a > 64 {
-            return MemberSet::empty();
+        if (1..=64).contains(&a) {
+            self.rows[(a - 1) as usize]
+        } else {
+            MemberSet::empty()
         }
-        self.rows[(a - 1) as usize]
     }
 
     /// Whether two numbers are linked members; no for equal or unknown ones.
