@@ -34,7 +34,7 @@ impl Network for Matrix {
 
     #[tactic(auto, using(crate::proofs::Counts::never_full))]
     fn most_links(&self) -> u32
-        ensures value { result ≡ room }
+        ensures value { result ≡ 2016 }
         ensures never_full { NeverFull }
     {
         Self::ROOM
