@@ -10,8 +10,7 @@ use models::named_model::NamedModel;
 use models::plain::Plain;
 use models::robust::Robust;
 use models::vertex_triangle::VertexTriangle;
-use network::graph::Graph;
-use sets::member_set::MemberSet;
+use network::induced::Induced;
 use vocabulary::model_kind::ModelKind;
 use vocabulary::refusal::Refusal;
 
@@ -52,23 +51,23 @@ impl GroupModel for AnyModel {
       | model.EdgeTriangle m ↦ by_count_lawful _ edge_triangle_grows
     ] };
 
-    fn fits(&self, graph: &Graph, set: MemberSet, a: u32) -> bool {
+    fn fits(&self, part: &Induced<'_>, a: u32) -> bool {
         match *self {
-            AnyModel::Plain(model) => model.fits(graph, set, a),
-            AnyModel::Robust(model) => model.fits(graph, set, a),
-            AnyModel::Hereditary(model) => model.fits(graph, set, a),
-            AnyModel::VertexTriangle(model) => model.fits(graph, set, a),
-            AnyModel::EdgeTriangle(model) => model.fits(graph, set, a),
+            AnyModel::Plain(model) => model.fits(part, a),
+            AnyModel::Robust(model) => model.fits(part, a),
+            AnyModel::Hereditary(model) => model.fits(part, a),
+            AnyModel::VertexTriangle(model) => model.fits(part, a),
+            AnyModel::EdgeTriangle(model) => model.fits(part, a),
         }
     }
 
-    fn pair(&self, graph: &Graph, set: MemberSet, a: u32, b: u32) -> bool {
+    fn pair(&self, part: &Induced<'_>, a: u32, b: u32) -> bool {
         match *self {
-            AnyModel::Plain(model) => model.pair(graph, set, a, b),
-            AnyModel::Robust(model) => model.pair(graph, set, a, b),
-            AnyModel::Hereditary(model) => model.pair(graph, set, a, b),
-            AnyModel::VertexTriangle(model) => model.pair(graph, set, a, b),
-            AnyModel::EdgeTriangle(model) => model.pair(graph, set, a, b),
+            AnyModel::Plain(model) => model.pair(part, a, b),
+            AnyModel::Robust(model) => model.pair(part, a, b),
+            AnyModel::Hereditary(model) => model.pair(part, a, b),
+            AnyModel::VertexTriangle(model) => model.pair(part, a, b),
+            AnyModel::EdgeTriangle(model) => model.pair(part, a, b),
         }
     }
 }

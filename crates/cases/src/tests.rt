@@ -67,7 +67,8 @@ fn standing_in(
         net.link(*a, *b)?;
     }
     let model = AnyModel::new(kind, t)?;
-    Ok(check_group(&model, &Graph::of(&net), set_of(numbers)))
+    let graph = Graph::of(&net);
+    Ok(check_group(&model, &graph.induced(set_of(numbers))))
 }
 
 #[test]

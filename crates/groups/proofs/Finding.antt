@@ -1,5 +1,5 @@
 -- What the loops over members have found when they end. Assumes nothing.
-use Rattle.std.proofs.Common.{◌≡◌, ℕ, ◌^◌, ◌<◌, ◌≤◌, false, ◌&&◌, T, ltb, sym, ap, ◌∙◌, subst, inl, inr, arith}
+use Rattle.std.proofs.Common.{◌≡◌, ℕ, ◌<◌, ◌≤◌, false, ◌&&◌, T, ltb, sym, ap, ◌∙◌, subst, inl, inr, arith}
 use Rattle.std.proofs.lemmas.Bool.{cases_lt, cases_order, lt-ltb, ltb-true}
 use Rattle.vocabulary.specs.declared.standing.Standing.{Standing}
 use Rattle.vocabulary.specs.declared.standing.Standing.TheVariants as standing
@@ -10,7 +10,7 @@ use Rattle.std.specs.Prelude.{Option, Some, None, MatchOption}
 use Rattle.rules.specs.Standings.{FirstNot, FirstLoose, PairsAbove, FirstApart, Stands, StandsOnly}
 use Rattle.groups.specs.Searches.{NextApart, FirstAbove}
 use Rattle.rules.proofs.Tests.{as_true, passes, fails, and_left, and_right, and_both}
-use Rattle.rules.proofs.Members.{inside_from, inside_to, inside_of, word_set, some_tells}
+use Rattle.rules.proofs.Members.{inside_from, inside_to, inside_of, set_word, some_tells}
 use Rattle.rules.proofs.Standings.{one_standing}
 use Rattle.sets.proofs.Sweeping.{Swept, sweep_earlier}
 
@@ -51,7 +51,7 @@ first_apart l m S rest a b swept low next = record {
 
 -- ---- how a set stands; B has the members of S that the network does not
 
-module _ (n : ℕ) (l : Links) (m : Meaning) (S B top : ℕ) (word : S < 2 ^ 64) (B_top : (y : ℕ) → has B y ≡ (has S y && ltb top y)) (top_is : top ≡ n) where
+module _ (n : ℕ) (l : Links) (m : Meaning) (S B top : ℕ) (numbers : SetOf 64 S) (B_top : (y : ℕ) → has B y ≡ (has S y && ltb top y)) (top_is : top ≡ n) where
   B_is : (y : ℕ) → has B y ≡ (has S y && ltb n y)
   B_is y = B_top y ∙ ap (λ (k : ℕ). has S y && ltb k y) top_is
 
@@ -59,7 +59,7 @@ module _ (n : ℕ) (l : Links) (m : Meaning) (S B top : ℕ) (word : S < 2 ^ 64)
   only r x = record { stands = x; only = λ other y. one_standing n l m S other r y x }
 
   known : (x : ℕ) → T (has S x) → x ≤ n → T (inside n x)
-  known x t h = inside_of n x (inside_from 64 x (word_set S word x t)) h
+  known x t h = inside_of n x (inside_from 64 x (numbers x t)) h
 
   all_known : EmptySet B → SetOf n S
   all_known none x t = elim (cases_lt n x) [ inl g ↦ absurd (fails (none x) (above_from S n B B_is x t g)) | inr g ↦ known x t g ]
@@ -80,7 +80,7 @@ module _ (n : ℕ) (l : Links) (m : Meaning) (S B top : ℕ) (word : S < 2 ^ 64)
   pub stands_group : (EmptySet S → ⊥) → EmptySet B → AllFit l m S → ((a : ℕ) → T (has S a) → PairsAbove l m S a) → LawfulLinks n l → LawfulModel n l m → StandsOnly n l m S standing.Group
   stands_group some none fit above N M = only standing.Group (record {
     members = all_known none;
-    some = some_tells S false word some;
+    some = some_tells S false (set_word 64 S numbers) some;
     all_fit = fit;
     all_pair = λ a b i j d. elim (cases_order a b) [
       | inl e ↦ absurd (d e)

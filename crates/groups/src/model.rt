@@ -3,20 +3,19 @@ ghost use Rattle.rules.specs.Links.{Links, LawfulLinks};
 ghost use Rattle.rules.specs.Models.{Meaning, LawfulModel};
 ghost use Rattle.network.specs.Graphs.{links_of};
 
-use network::graph::Graph;
-use sets::member_set::MemberSet;
+use network::induced::Induced;
 
 /// A model answers two questions about the members of a set; its meaning is these answers.
 pub trait GroupModel {
     ghost meaning: { Self → Meaning };
 
     /// Whether the member a fits the set.
-    fn fits(&self, graph: &Graph, set: MemberSet, a: u32) -> bool
-        ensures { result ≡ (meaning self.now).fits (links_of graph.now) set.word a };
+    fn fits(&self, part: &Induced<'_>, a: u32) -> bool
+        ensures { result ≡ (meaning self.now).fits (links_of part.now.graph.now) part.now.set.word a };
 
     /// Whether the two different members a and b pair in the set.
-    fn pair(&self, graph: &Graph, set: MemberSet, a: u32, b: u32) -> bool
-        ensures { result ≡ (meaning self.now).pairs (links_of graph.now) set.word a b };
+    fn pair(&self, part: &Induced<'_>, a: u32, b: u32) -> bool
+        ensures { result ≡ (meaning self.now).pairs (links_of part.now.graph.now) part.now.set.word a b };
 
     ghost lawful: { (m : Self) (n : ℕ) (l : Links) → LawfulLinks n l → LawfulModel n l (meaning m) };
 }

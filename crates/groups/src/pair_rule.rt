@@ -3,8 +3,7 @@ ghost use Rattle.rules.specs.Models.{by_count, Grows};
 ghost use Rattle.rules.proofs.Models.{by_count_lawful};
 
 use crate::model::GroupModel;
-use network::graph::Graph;
-use sets::member_set::MemberSet;
+use network::induced::Induced;
 
 /// A rule by which two members of a set pair, from whether they are linked and how many members of the set they share.
 pub trait PairRule {
@@ -22,11 +21,11 @@ impl<R: PairRule> GroupModel for R {
 
     ghost lawful = { λ rule. by_count_lawful (R.enough rule) (R.grows rule) };
 
-    fn fits(&self, graph: &Graph, set: MemberSet, a: u32) -> bool {
-        set.has(a)
+    fn fits(&self, part: &Induced<'_>, a: u32) -> bool {
+        part.set.has(a)
     }
 
-    fn pair(&self, graph: &Graph, set: MemberSet, a: u32, b: u32) -> bool {
-        set.has_two(a, b) && self.enough(graph.linked(a, b), graph.shared(a, b, set))
+    fn pair(&self, part: &Induced<'_>, a: u32, b: u32) -> bool {
+        part.set.has_two(a, b) && self.enough(part.graph.linked(a, b), part.shared(a, b))
     }
 }

@@ -41,5 +41,5 @@ pub fn judge_sheet<N: Network, M: GroupModel>(
 {
     let graph = Graph::of(net);
     let set = read_sheet(&graph, sheet)?;
-    Ok(check_group(model, &graph, set))
+    Ok(check_group(model, &graph.induced(set)))
 }

@@ -3,23 +3,22 @@ ghost use Rattle.network.specs.Graphs.{members_of, links_of};
 ghost use Rattle.groups.specs.Searches.{FirstAbove};
 
 use crate::model::GroupModel;
-use network::graph::Graph;
-use sets::member_set::MemberSet;
+use network::induced::Induced;
 use vocabulary::standing::Standing;
 
 /// The smallest member of the set that does not fit it.
-pub fn first_loose<M: GroupModel>(model: &M, graph: &Graph, set: MemberSet) -> Option<u32>
-    ensures { FirstLoose (links_of graph.now) (M.GroupModel.meaning model.now) set.word result }
+pub fn first_loose<M: GroupModel>(model: &M, part: &Induced<'_>) -> Option<u32>
+    ensures { FirstLoose (links_of part.now.graph.now) (M.GroupModel.meaning model.now) part.now.set.word result }
 {
-    set.members().find(|a| !model.fits(graph, set, *a))
+    part.set.members().find(|a| !model.fits(part, *a))
 }
 
 /// The smallest member of the set, then the smallest above it, that do not pair in the set.
-pub fn first_unpaired<M: GroupModel>(model: &M, graph: &Graph, set: MemberSet) -> Option<(u32, u32)>
-    ensures { FirstUnpaired (links_of graph.now) (M.GroupModel.meaning model.now) set.word result }
+pub fn first_unpaired<M: GroupModel>(model: &M, part: &Induced<'_>) -> Option<(u32, u32)>
+    ensures { FirstUnpaired (links_of part.now.graph.now) (M.GroupModel.meaning model.now) part.now.set.word result }
 {
-    for a in set.members() {
-        if let Some(b) = first_apart(model, graph, set, a) {
+    for a in part.set.members() {
+        if let Some(b) = first_apart(model, part, a) {
             return Some((a, b));
         }
     }
@@ -27,28 +26,30 @@ pub fn first_unpaired<M: GroupModel>(model: &M, graph: &Graph, set: MemberSet) -
 }
 
 /// The smallest member of the set above a that does not pair with a in the set.
-fn first_apart<M: GroupModel>(model: &M, graph: &Graph, set: MemberSet, a: u32) -> Option<u32>
-    ensures { FirstAbove (links_of graph.now) (M.GroupModel.meaning model.now) set.word a result }
+fn first_apart<M: GroupModel>(model: &M, part: &Induced<'_>, a: u32) -> Option<u32>
+    ensures { FirstAbove (links_of part.now.graph.now) (M.GroupModel.meaning model.now) part.now.set.word a result }
 {
-    set.above(a)
+    part.set
+        .above(a)
         .members()
-        .find(|b| !model.pair(graph, set, a, *b))
+        .find(|b| !model.pair(part, a, *b))
 }
 
 /// How the set stands in the network under the model: a group of it, or the first thing that is wrong.
-pub fn check_group<M: GroupModel>(model: &M, graph: &Graph, set: MemberSet) -> Standing
-    ensures { StandsOnly (members_of graph.now) (links_of graph.now) (M.GroupModel.meaning model.now) set.word result }
+pub fn check_group<M: GroupModel>(model: &M, part: &Induced<'_>) -> Standing
+    ensures { StandsOnly (members_of part.now.graph.now) (links_of part.now.graph.now) (M.GroupModel.meaning model.now) part.now.set.word result }
 {
+    let Induced { graph, set } = *part;
     if set.is_empty() {
         return Standing::Empty;
     }
     if let Some(a) = set.above(graph.n()).smallest() {
         return Standing::Unknown(a);
     }
-    if let Some(a) = first_loose(model, graph, set) {
+    if let Some(a) = first_loose(model, part) {
         return Standing::Loose(a);
     }
-    if let Some((a, b)) = first_unpaired(model, graph, set) {
+    if let Some((a, b)) = first_unpaired(model, part) {
         return Standing::Apart(a, b);
     }
     Standing::Group

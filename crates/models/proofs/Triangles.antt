@@ -1,15 +1,15 @@
 -- A triangle at a member, looked for among its neighbours in the set. Assumes nothing.
-use Rattle.std.proofs.Common.{◌≡◌, ℕ, ◌^◌, ◌<◌, Bool, true, false, ◌&&◌, T, leb, sym, subst, leb→le, le→leb}
-use Rattle.rules.specs.Sets.{has, tally}
+use Rattle.std.proofs.Common.{◌≡◌, ℕ, Bool, true, false, ◌&&◌, T, leb, sym, subst, leb→le, le→leb}
+use Rattle.rules.specs.Sets.{has, tally, SetOf}
 use Rattle.rules.specs.Links.{Links, shared}
 use Rattle.rules.specs.Models.{in_triangle}
 use Rattle.rules.proofs.Tests.{as_true, as_false, and_left, and_right, and_both}
 use Rattle.rules.proofs.Tallies.{one_passes, some_passes}
-use Rattle.rules.proofs.Members.{inside_from, inside_to, word_set}
+use Rattle.rules.proofs.Members.{inside_from, inside_to}
 use Rattle.sets.proofs.Sweeping.{AnyOf}
 
 -- near has the neighbours of a in S
-module _ (l : Links) (S a near : ℕ) (word : S < 2 ^ 64) (near_is : (b : ℕ) → has near b ≡ (l a b && has S b)) where
+module _ (l : Links) (S a near : ℕ) (numbers : SetOf 64 S) (near_is : (b : ℕ) → has near b ≡ (l a b && has S b)) where
   third : ℕ → Bool
   third b = leb 1 (shared l a b S)
 
@@ -21,7 +21,7 @@ module _ (l : Links) (S a near : ℕ) (word : S < 2 ^ 64) (near_is : (b : ℕ) �
   found b n t =
       let q = subst T (near_is b) n in
       let i = and_right (l a b) (has S b) q in
-      let here = word_set S word b i in
+      let here = numbers b i in
       le→leb 1 (tally second 64) (one_passes second b 64 (inside_from 64 b here) (inside_to 64 b here) (and_both (has S b) (l a b && third b) i (and_both (l a b) (third b) (and_left (l a b) (has S b) q) t)))
 
   missing : ((b : ℕ) → T (has near b) → T (third b) → ⊥) → T (in_triangle l S a) → ⊥

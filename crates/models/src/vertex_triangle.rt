@@ -8,8 +8,7 @@ use crate::named_model::NamedModel;
 use crate::parameter::check_parameter;
 use crate::plain::Plain;
 use groups::model::GroupModel;
-use network::graph::Graph;
-use sets::member_set::MemberSet;
+use network::induced::Induced;
 use vocabulary::model_kind::ModelKind;
 use vocabulary::refusal::Refusal;
 
@@ -22,12 +21,12 @@ impl GroupModel for VertexTriangle {
 
     ghost lawful = { λ model. vertex_triangle_lawful };
 
-    fn fits(&self, graph: &Graph, set: MemberSet, a: u32) -> bool {
-        set.has(a) && in_triangle(graph, set, a)
+    fn fits(&self, part: &Induced<'_>, a: u32) -> bool {
+        part.set.has(a) && in_triangle(part, a)
     }
 
-    fn pair(&self, graph: &Graph, set: MemberSet, a: u32, b: u32) -> bool {
-        Plain.pair(graph, set, a, b)
+    fn pair(&self, part: &Induced<'_>, a: u32, b: u32) -> bool {
+        Plain.pair(part, a, b)
     }
 }
 
@@ -41,12 +40,8 @@ impl NamedModel for VertexTriangle {
 }
 
 /// Whether two members of the set are linked to a and to each other.
-fn in_triangle(graph: &Graph, set: MemberSet, a: u32) -> bool
-    ensures { result ≡ in_triangle (links_of graph.now) set.word a }
+fn in_triangle(part: &Induced<'_>, a: u32) -> bool
+    ensures { result ≡ in_triangle (links_of part.now.graph.now) part.now.set.word a }
 {
-    graph
-        .neighbours(a)
-        .intersection(set)
-        .members()
-        .any(|b| graph.shared(a, b, set) >= 1)
+    part.neighbours(a).members().any(|b| part.shared(a, b) >= 1)
 }

@@ -3,4 +3,5 @@
 
 pub mod ends;
 pub mod graph;
+pub mod induced;
 pub mod network;
