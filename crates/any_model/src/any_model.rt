@@ -15,7 +15,7 @@ use vocabulary::model_kind::ModelKind;
 use vocabulary::refusal::Refusal;
 
 /// One of the models, where which one is known only when the program runs.
-#[derive(Clone, Copy)]
+#[derive(Clone, Copy, Debug, PartialEq, Eq)]
 pub enum AnyModel {
     Plain(Plain),
     Robust(Robust),

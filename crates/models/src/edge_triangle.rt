@@ -9,7 +9,7 @@ use vocabulary::model_kind::ModelKind;
 use vocabulary::refusal::Refusal;
 
 /// The edge triangle model: two members pair when they share a member of the set, linked or not. So every link of a group lies in a triangle.
-#[derive(Clone, Copy)]
+#[derive(Clone, Copy, Debug, PartialEq, Eq)]
 pub struct EdgeTriangle;
 
 impl PairRule for EdgeTriangle {

@@ -9,7 +9,7 @@ use vocabulary::model_kind::ModelKind;
 use vocabulary::refusal::Refusal;
 
 /// The hereditary model, whose groups stay 2-clubs whoever leaves, up to t members: two members pair when linked or when they share more than t members of the set.
-#[derive(Clone, Copy)]
+#[derive(Clone, Copy, Debug, PartialEq, Eq)]
 pub struct Hereditary {
     t: u32,
     ghost few: { t ≤ 63 },

@@ -9,7 +9,7 @@ use vocabulary::model_kind::ModelKind;
 use vocabulary::refusal::Refusal;
 
 /// The plain model, whose groups are the 2-clubs: two members pair when linked or when they share a member of the set.
-#[derive(Clone, Copy)]
+#[derive(Clone, Copy, Debug, PartialEq, Eq)]
 pub struct Plain;
 
 impl PairRule for Plain {

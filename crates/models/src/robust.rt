@@ -9,7 +9,7 @@ use vocabulary::model_kind::ModelKind;
 use vocabulary::refusal::Refusal;
 
 /// The robust model: two members pair when t paths of at most two links join them that share nothing but their ends. A link is one such path, each shared member another.
-#[derive(Clone, Copy)]
+#[derive(Clone, Copy, Debug, PartialEq, Eq)]
 pub struct Robust {
     t: u32,
     ghost some: { 1 ≤ t },

@@ -13,7 +13,7 @@ use vocabulary::model_kind::ModelKind;
 use vocabulary::refusal::Refusal;
 
 /// The vertex triangle model: a member fits when it lies in a triangle of the set, and two pair as in plain.
-#[derive(Clone, Copy)]
+#[derive(Clone, Copy, Debug, PartialEq, Eq)]
 pub struct VertexTriangle;
 
 impl GroupModel for VertexTriangle {

@@ -1,7 +1,7 @@
 mod data;
 
 /// A small network that is written down.
-#[derive(Clone, Copy)]
+#[derive(Clone, Copy, Debug, PartialEq, Eq)]
 pub enum Example {
     /// 1 linked to each of 2 3 4 5
     Star,
