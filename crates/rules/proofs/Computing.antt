@@ -1,5 +1,5 @@
 -- Tests that compute, and what they show of small networks: the set that a list names, lawful links, groups, two that are apart. Assumes nothing.
-use Rattle.std.proofs.Common.{◌≡◌, ℕ, zero, suc, ◌-◌, ◌*◌, ◌%◌, ◌^◌, Bool, true, false, not, ◌&&◌, T, eqb, ltb, leb, List, [], ◌∷◌, sym, ◌∙◌, subst, inl, inr, arith, ltb→lt, T_not}
+use Rattle.std.proofs.Common.{◌≡◌, ℕ, zero, suc, ◌-◌, ◌*◌, ◌%◌, ◌^◌, ◌≤◌, Bool, true, false, not, ◌&&◌, T, eqb, ltb, List, [], ◌∷◌, sym, ◌∙◌, subst, inl, inr, arith, T_not}
 use lib.Bits.{bit_or}
 use Rattle.std.proofs.lemmas.Bool.{cases_Bool, cases_eq}
 use Rattle.std.proofs.lemmas.Bool.Decides.{nat_tests}
@@ -10,7 +10,7 @@ use Rattle.rules.specs.Links.{Links, LawfulLinks}
 use Rattle.rules.specs.Lists.{on, Named}
 use Rattle.rules.specs.Sheets.{no_numbers}
 use Rattle.rules.specs.Models.{Meaning, Group}
-use Rattle.rules.specs.Standings.{FirstApart, Stands}
+use Rattle.rules.specs.Standings.{Stands}
 use Rattle.rules.specs.Kinds.{in_range, rule}
 use Rattle.rules.specs.Worked.{SmallNetwork, links_among, OfThose, Lawful, IsNoGroup, AreGroup, AreNoGroup, NoGroup, StandOnly}
 use Rattle.rules.proofs.Digits.{has_one, has_or, nobody}
@@ -20,20 +20,7 @@ use Rattle.rules.proofs.Refusals.{TwoMembers}
 use Rattle.rules.proofs.Standings.{one_standing}
 use Rattle.rules.proofs.Agreement.{agrees}
 
--- ---- many tests; a failed one ends them
-
-abbrev all : List Bool → Bool
-all [] = true
-all (b ∷ bs) = elim b [ true ↦ all bs | false ↦ false ]
-
-abbrev AllPass : List Bool → Type 0
-AllPass [] = Unit
-AllPass (b ∷ bs) = T b × AllPass bs
-
-all_pass : (tests : List Bool) → T (all tests) → AllPass tests
-all_pass [] t = tt
-all_pass (true ∷ bs) t = (tt, all_pass bs t)
-all_pass (false ∷ bs) t = absurd t
+-- ---- tests
 
 -- c where b passes, and true where it does not
 abbrev if : Bool → Bool → Bool
@@ -69,7 +56,7 @@ abbrev word_of : List ℕ → ℕ
 word_of [] = 0
 word_of (x ∷ xs) = bit_or ((1 * 2 ^ (x - 1)) % 2 ^ 64) (word_of xs)
 
-module _ (n : ℕ) (few : T (leb n 64)) where
+module _ (n : ℕ) (few : n ≤ 64) where
   word_named : (list : List ℕ) → T (all_inside n list) → Named list (word_of list)
   word_named [] t a = nobody a
   word_named (x ∷ xs) t a =
@@ -98,21 +85,16 @@ module _ (n : ℕ) (few : T (leb n 64)) where
 
 abbrev proper_links : ℕ → List (ℕ × ℕ) → Bool
 proper_links n [] = true
-proper_links n (p ∷ rest) = all (inside n p.0 ∷ inside n p.1 ∷ not (eqb p.0 p.1) ∷ proper_links n rest ∷ [])
+proper_links n (p ∷ rest) = inside n p.0 && (inside n p.1 && (not (eqb p.0 p.1) && proper_links n rest))
 
-pub lawful : (net : SmallNetwork) → T (inside 64 net.members && proper_links net.members net.links) → Lawful net
-lawful net t = of_list net.links (grind (arith, nat_tests))
+pub lawful : (net : SmallNetwork) → T (inside 64 net.members) → T (proper_links net.members net.links) → Lawful net
+lawful net i t = of_list net.links t
   where
-    i : T (inside 64 net.members)
-    i = grind (arith, nat_tests)
-
     of_list : (list : List (ℕ × ℕ)) → T (proper_links net.members list) → LawfulLinks net.members (links_among list)
     of_list [] t = no_links_lawful net.members (inside_from 64 net.members i) (inside_to 64 net.members i)
     of_list (p ∷ rest) t =
-        let q = all_pass (inside net.members p.0 ∷ inside net.members p.1 ∷ not (eqb p.0 p.1) ∷ proper_links net.members rest ∷ []) t in
-        let d = q.1.1.0 in
-        let ends : TwoMembers net.members p.0 p.1 = record { one = q.0; two = q.1.0; differ = λ e. grind (arith, nat_tests) } in
-        linking_lawful net.members p.0 p.1 (links_among rest) ends (of_list rest q.1.1.1.0)
+        let ends : TwoMembers net.members p.0 p.1 = record { one = grind arith; two = grind arith; differ = λ e. grind (arith, nat_tests) } in
+        linking_lawful net.members p.0 p.1 (links_among rest) ends (of_list rest (grind arith))
 
 -- ---- groups and two that are apart
 
@@ -159,32 +141,29 @@ module _ (n : ℕ) (l : Links) (m : Meaning) (S : ℕ) where
   unfoldable pub pairs_before : ℕ → ℕ → Bool
   pairs_before a x = if (has S x && ltb x a) (every (pairs_above x) n)
 
-  abbrev apart_tests : ℕ → ℕ → List Bool
-  apart_tests a b =
-      every (λ x. if (has S x) (m.fits l S x)) n
-      ∷ has S a ∷ has S b ∷ ltb a b ∷ not (m.pairs l S a b) ∷ every (pairs_before a) n ∷ every (λ y. if (ltb y b) (pairs_above a y)) n ∷ []
-
-  apart_from : SetOf n S → (a b : ℕ) → T (all (apart_tests a b)) → Stands n l m S (standing.Apart a b)
+  pub apart_from : SetOf n S → (a b : ℕ) → T (every (λ x. if (has S x) (m.fits l S x)) n) → T (has S a && (has S b && (ltb a b && not (m.pairs l S a b))))
+      → T (every (pairs_before a) n) → T (every (λ y. if (ltb y b) (pairs_above a y)) n) → Stands n l m S (standing.Apart a b)
   unfolding pairs_before pairs_above
-  apart_from members a b t =
-      let q = all_pass (apart_tests a b) t in
-      let first : FirstApart l m S a b = record {
-        one = q.1.0;
-        two = q.1.1.0;
-        above = ltb→lt a b q.1.1.1.0;
-        unpaired = T_not (m.pairs l S a b) q.1.1.1.1.0;
-        smallest = λ x i h y j k.
-            let r = every_at (pairs_before a) n q.1.1.1.1.1.0 x (members x i) in
-            let p = every_at (pairs_above x) n (grind (arith, nat_tests)) y (members y j) in
-            grind (arith, nat_tests);
-        next = λ y i h k. let p = every_at (λ y. if (ltb y b) (pairs_above a y)) n q.1.1.1.1.1.1.0 y (members y i) in grind (arith, nat_tests);
-      } in
-      (members, λ x i. let f = every_at (λ x. if (has S x) (m.fits l S x)) n q.0 x (members x i) in grind (arith, nat_tests), first)
+  apart_from members a b fit two before between = (
+    members,
+    λ x i. let f = every_at (λ x. if (has S x) (m.fits l S x)) n fit x (members x i) in grind (arith, nat_tests),
+    record {
+      one = grind arith;
+      two = grind arith;
+      above = grind (arith, nat_tests);
+      unpaired = λ p. grind arith;
+      smallest = λ x i h y j k.
+          let r = every_at (pairs_before a) n before x (members x i) in
+          let p = every_at (pairs_above x) n (grind (arith, nat_tests)) y (members y j) in
+          grind (arith, nat_tests);
+      next = λ y i h k. let p = every_at (λ y. if (ltb y b) (pairs_above a y)) n between y (members y i) in grind (arith, nat_tests);
+    },
+  )
 
 -- ---- what is known of a small network
 
 module _ (net : SmallNetwork) (k : ModelKind) (t : ℕ) where
-  abbrev n : ℕ
+  abbrev pub n : ℕ
   n = net.members
 
   abbrev l : Links
@@ -200,43 +179,26 @@ module _ (net : SmallNetwork) (k : ModelKind) (t : ℕ) where
         let none : Group n l m S → ⊥ = λ g. T_not (all_belong n l m S) fails (group_to n l m S g) in
         (none, λ p. none ((agrees k t ok n l S a L members i).1 p))
 
-    module _ (list : List ℕ) where
-      abbrev list_tests : Bool → List Bool
-      list_tests last = leb n 64 ∷ all_inside n list ∷ not (no_numbers list) ∷ in_range k t ∷ last ∷ []
+    pub are_group : (list : List ℕ) → T (all_inside n list) → T (not (no_numbers list)) → T (in_range k t) → T (all_belong n l m (word_of list)) → AreGroup net k t list
+    are_group list i filled ok passed =
+        let some = word_some n L.few list i filled in
+        let members = word_members n L.few list i in
+        let g = group_from n l m (word_of list) members some passed in
+        of_those n L.few list i (g, (agrees k t ok n l (word_of list) some.0 L members some.1).0 g)
 
-      pub are_group : T (all (list_tests (all_belong n l m (word_of list)))) → AreGroup net k t list
-      are_group passed =
-          let q = all_pass (list_tests (all_belong n l m (word_of list))) passed in
-          let few = q.0 in
-          let i = q.1.0 in
-          let some = word_some n few list i q.1.1.0 in
-          let members = word_members n few list i in
-          let g = group_from n l m (word_of list) members some q.1.1.1.1.0 in
-          of_those n few list i (g, (agrees k t q.1.1.1.0 n l (word_of list) some.0 L members some.1).0 g)
-
-      pub are_no_group : T (all (list_tests (not (all_belong n l m (word_of list))))) → AreNoGroup net k t list
-      are_no_group passed =
-          let q = all_pass (list_tests (not (all_belong n l m (word_of list)))) passed in
-          let few = q.0 in
-          let i = q.1.0 in
-          let some = word_some n few list i q.1.1.0 in
-          of_those n few list i (is_no_group (word_of list) some.0 (word_members n few list i) some.1 q.1.1.1.0 q.1.1.1.1.0)
+    pub are_no_group : (list : List ℕ) → T (all_inside n list) → T (not (no_numbers list)) → T (in_range k t) → T (not (all_belong n l m (word_of list))) → AreNoGroup net k t list
+    are_no_group list i filled ok failed =
+        let some = word_some n L.few list i filled in
+        of_those n L.few list i (is_no_group (word_of list) some.0 (word_members n L.few list i) some.1 ok failed)
 
     pub no_group : T (in_range k t) → T (every (λ S. not (all_belong n l m S)) (2 ^ n - 1)) → NoGroup net k t
-    no_group ok passed S a members i =
+    no_group ok failed S a members i =
         let small = set_word n S members in
         let none = nobody a in
         let some : S ≡ 0 → ⊥ = λ e. grind (arith, nat_tests) in
-        is_no_group S a members i ok (every_at (λ R. not (all_belong n l m R)) (2 ^ n - 1) passed S (grind (arith, nat_tests)))
+        is_no_group S a members i ok (every_at (λ R. not (all_belong n l m R)) (2 ^ n - 1) failed S (grind (arith, nat_tests)))
 
-  module _ (list : List ℕ) where
-    abbrev stand_tests : ℕ → ℕ → List Bool
-    stand_tests a b = leb n 64 ∷ all_inside n list ∷ all (apart_tests n l m (word_of list) a b) ∷ []
-
-    pub stand_apart : (a b : ℕ) → T (all (stand_tests a b)) → StandOnly net k t list (standing.Apart a b)
-    stand_apart a b passed =
-        let q = all_pass (stand_tests a b) passed in
-        let few = q.0 in
-        let i = q.1.0 in
-        let stands = apart_from n l m (word_of list) (word_members n few list i) a b q.1.1.0 in
-        of_those n few list i (record { stands = stands; only = λ other s. one_standing n l m (word_of list) other (standing.Apart a b) s stands })
+    pub stand_apart : (list : List ℕ) (a b : ℕ) → T (all_inside n list) → (SetOf n (word_of list) → Stands n l m (word_of list) (standing.Apart a b)) → StandOnly net k t list (standing.Apart a b)
+    stand_apart list a b i apart =
+        let stands = apart (word_members n L.few list i) in
+        of_those n L.few list i (record { stands = stands; only = λ other s. one_standing n l m (word_of list) other (standing.Apart a b) s stands })
