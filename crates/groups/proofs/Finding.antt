@@ -1,6 +1,7 @@
 -- What the loops over members have found when they end. Assumes nothing.
-use Rattle.std.proofs.Common.{◌≡◌, ℕ, ◌<◌, ◌≤◌, false, ◌&&◌, T, ltb, sym, ap, ◌∙◌, subst, inl, inr, arith}
-use Rattle.std.proofs.lemmas.Bool.{cases_lt, cases_order, lt-ltb, ltb-true}
+use Rattle.std.proofs.Common.{◌≡◌, ℕ, ◌<◌, ◌≤◌, false, ◌&&◌, T, ltb, ap, ◌∙◌, subst, inl, inr, arith}
+use Rattle.std.proofs.lemmas.Bool.{cases_lt, cases_order}
+use Rattle.std.proofs.lemmas.Bool.Decides.{nat_tests}
 use Rattle.vocabulary.specs.declared.standing.Standing.{Standing}
 use Rattle.vocabulary.specs.declared.standing.Standing.TheVariants as standing
 use Rattle.rules.specs.Sets.{has, inside, EmptySet, SetOf, Lowest}
@@ -9,7 +10,6 @@ use Rattle.rules.specs.Models.{Meaning, LawfulModel, AllFit}
 use Rattle.std.specs.Prelude.{Option, Some, None, MatchOption}
 use Rattle.rules.specs.Standings.{FirstNot, FirstLoose, PairsAbove, FirstApart, Stands, StandsOnly}
 use Rattle.groups.specs.Searches.{NextApart, FirstAbove}
-use Rattle.rules.proofs.Tests.{as_true, passes, fails, and_left, and_right, and_both}
 use Rattle.rules.proofs.Members.{inside_from, inside_to, inside_of, set_word, some_tells}
 use Rattle.rules.proofs.Standings.{one_standing}
 use Rattle.sets.proofs.Sweeping.{Swept, sweep_earlier}
@@ -17,13 +17,13 @@ use Rattle.sets.proofs.Sweeping.{Swept, sweep_earlier}
 -- B has the members of S above a
 module _ (S a B : ℕ) (B_is : (y : ℕ) → has B y ≡ (has S y && ltb a y)) where
   above_from : (y : ℕ) → T (has S y) → a < y → T (has B y)
-  above_from y t h = subst T (sym (B_is y)) (and_both (has S y) (ltb a y) t (passes (lt-ltb a y h)))
+  above_from y t h = let b = B_is y in grind (arith, nat_tests)
 
   above_in : (y : ℕ) → T (has B y) → T (has S y)
-  above_in y t = and_left (has S y) (ltb a y) (subst T (B_is y) t)
+  above_in y t = let b = B_is y in grind (arith, nat_tests)
 
   above_over : (y : ℕ) → T (has B y) → a < y
-  above_over y t = ltb-true a y (as_true (ltb a y) (and_right (has S y) (ltb a y) (subst T (B_is y) t)))
+  above_over y t = let b = B_is y in grind (arith, nat_tests)
 
   -- what was found among them
   pub found_above : (l : Links) (m : Meaning) (r : Option ℕ) → MatchOption r ((y : ℕ) → T (has B y) → T (m.pairs l S a y)) (FirstNot B (λ y. T (m.pairs l S a y))) → FirstAbove l m S a r
@@ -62,7 +62,7 @@ module _ (n : ℕ) (l : Links) (m : Meaning) (S B top : ℕ) (numbers : SetOf 64
   known x t h = inside_of n x (inside_from 64 x (numbers x t)) h
 
   all_known : EmptySet B → SetOf n S
-  all_known none x t = elim (cases_lt n x) [ inl g ↦ absurd (fails (none x) (above_from S n B B_is x t g)) | inr g ↦ known x t g ]
+  all_known none x t = elim (cases_lt n x) [ inl g ↦ absurd (subst T (none x) (above_from S n B B_is x t g)) | inr g ↦ known x t g ]
 
   pub stands_unknown : (a : ℕ) → Lowest B a → StandsOnly n l m S (standing.Unknown a)
   stands_unknown a low = only (standing.Unknown a) (record {

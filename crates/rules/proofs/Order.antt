@@ -1,33 +1,47 @@
 -- The order of sets: its laws, and how sizes and the lowest digit in which two words differ decide it. Assumes nothing.
-use Rattle.std.proofs.Common.{◌≡◌, ℕ, zero, suc, ◌<◌, ◌≤◌, Bool, true, false, T, ◌⊎◌, sym, refl, ◌∙◌, subst, inl, inr, le_of_suc-le-suc, not-suc-le-zero, lt_irrefl, eq-or-lt_of_le, arith}
-use Rattle.std.proofs.lemmas.Bool.{cases_lt, cases_order}
+use Rattle.std.proofs.Common.{◌≡◌, ℕ, ◌+◌, Bool, true, false, T, ◌⊎◌, sym, ◌∙◌, subst, inl, inr, arith}
+use lib.Bits.{bit_xor}
+use lib.Count.{count_trailing_zeros}
+use Rattle.std.proofs.lemmas.Bool.{cases_Bool, cases_eq, cases_order}
+use Rattle.std.proofs.lemmas.Bool.Decides.{nat_tests}
 use Rattle.std.specs.Prelude.{Option, Some, None, MatchOption}
-use Rattle.rules.specs.Sets.{Tells, differs, has, SetOf, size, Smallest}
+use Rattle.rules.specs.Sets.{Tells, differs, has, SetOf, size, Smallest, Lowest}
 use Rattle.rules.specs.Order.{HoldsFirst, Better, OrderLaws}
-use Rattle.rules.proofs.Tests.{compared, tells_by, as_false}
-use Rattle.rules.proofs.Members.{same_members, inside_to}
+use Rattle.rules.proofs.Digits.{has_xor}
+use Rattle.rules.proofs.Members.{same_members, no_members, set_word, smallest}
+
+-- ---- the smallest number in which two sets differ
+
+-- v is the smallest member of a set that has exactly those in which S and R differ
+holds_first : (S R D v : ℕ) → ((a : ℕ) → has D a ≡ differs (has S a) (has R a)) → Lowest D v → has S v ≡ true → HoldsFirst S R
+holds_first S R D v D_is low t = let d = D_is v in let m = low.member in record {
+  at = v;
+  held = grind (arith, nat_tests);
+  lacks = λ r. grind (arith, nat_tests);
+  below = λ a h. let e = D_is a in let l = low.least a in grind (arith, nat_tests);
+}
+
+lacks_first : (S R D v : ℕ) → ((a : ℕ) → has D a ≡ differs (has S a) (has R a)) → Lowest D v → has S v ≡ false → HoldsFirst R S
+lacks_first S R D v D_is low f =
+    holds_first R S D v (λ a. let e = D_is a in grind (arith, nat_tests)) low (let d = D_is v in let m = low.member in grind (arith, nat_tests))
+
+same_sets : (S R D : ℕ) → ((a : ℕ) → has D a ≡ differs (has S a) (has R a)) → ((a : ℕ) → has D a ≡ false) → S ≡ R
+same_sets S R D D_is none = same_members S R (λ a. let d = D_is a in let n = none a in grind (arith, nat_tests))
+
+first_or_same : (S R : ℕ) → SetOf 64 S → SetOf 64 R → (S ≡ R) ⊎ (HoldsFirst S R ⊎ HoldsFirst R S)
+first_or_same S R p q =
+    let D = bit_xor S R in
+    elim (cases_eq D 0) [
+      | inl e ↦ inl (same_sets S R D (has_xor S R) (no_members D e))
+      | inr d ↦
+          let low = smallest D d (set_word 64 D (λ a t. let x = has_xor S R a in let i = p a in let j = q a in grind (arith, nat_tests))) in
+          elim (cases_Bool (has S (count_trailing_zeros 64 D + 1))) [
+            | inl t ↦ inr (inl (holds_first S R D _ (has_xor S R) low t))
+            | inr f ↦ inr (inr (lacks_first S R D _ (has_xor S R) low f))
+          ]
+    ]
 
 -- ---- laws
-
--- two sets agree on the numbers below k, or one holds the smallest number in which they differ
-first_below : (S R k : ℕ) → ((a : ℕ) → a < k → has S a ≡ has R a) ⊎ (HoldsFirst S R ⊎ HoldsFirst R S)
-first_below S R zero = inl (λ a h. absurd (not-suc-le-zero h))
-first_below S R (suc k) = elim (first_below S R k) [ inl f ↦ here f (compared (has S k) (has R k)) | inr d ↦ inr d ]
-  where
-    here : ((a : ℕ) → a < k → has S a ≡ has R a) → (has S k ≡ has R k) ⊎ ((T (has S k) × (T (has R k) → ⊥)) ⊎ (T (has R k) × (T (has S k) → ⊥)))
-        → ((a : ℕ) → a < suc k → has S a ≡ has R a) ⊎ (HoldsFirst S R ⊎ HoldsFirst R S)
-    here f (inl e) = inl (λ a h. elim (eq-or-lt_of_le (le_of_suc-le-suc h)) [ inl q ↦ subst (λ (x : ℕ). has S x ≡ has R x) (sym q) e | inr l ↦ f a l ])
-    here f (inr (inl p)) = inr (inl (record { at = k; held = p.0; lacks = p.1; below = f }))
-    here f (inr (inr p)) = inr (inr (record { at = k; held = p.0; lacks = p.1; below = λ a h. sym (f a h) }))
-
-pub first_or_same : (S R : ℕ) → SetOf 64 S → SetOf 64 R → (S ≡ R) ⊎ (HoldsFirst S R ⊎ HoldsFirst R S)
-first_or_same S R p q = elim (first_below S R 65) [
-  | inl f ↦ inl (same_members S R (λ a. elim (cases_lt a 65) [ inl h ↦ f a h | inr h ↦ beyond S p a h ∙ sym (beyond R q a h) ]))
-  | inr d ↦ inr d
-]
-  where
-    beyond : (Q : ℕ) → SetOf 64 Q → (a : ℕ) → 65 ≤ a → has Q a ≡ false
-    beyond Q small a h = as_false (has Q a) (λ t. let l = inside_to 64 a (small a t) in omega arith)
 
 first_trans : (S R Q : ℕ) → HoldsFirst S R → HoldsFirst R Q → HoldsFirst S Q
 first_trans S R Q f g = elim (cases_order f.at g.at) [
@@ -36,79 +50,32 @@ first_trans S R Q f g = elim (cases_order f.at g.at) [
   | inr (inr h) ↦ record { at = g.at; held = subst T (sym (f.below g.at h)) g.held; lacks = g.lacks; below = λ a l. f.below a (omega arith) ∙ g.below a l }
 ]
 
-pub better_irrefl : (S : ℕ) → Better S S → ⊥
-better_irrefl S (inl h) = lt_irrefl (size S) h
+better_irrefl : (S : ℕ) → Better S S → ⊥
+better_irrefl S (inl h) = omega arith
 better_irrefl S (inr h) = h.1.lacks h.1.held
 
-pub better_trans : (S R Q : ℕ) → Better S R → Better R Q → Better S Q
+better_trans : (S R Q : ℕ) → Better S R → Better R Q → Better S Q
 better_trans S R Q (inl h) (inl k) = inl (omega arith)
 better_trans S R Q (inl h) (inr k) = inl (omega (arith, k.0))
 better_trans S R Q (inr h) (inl k) = inl (omega (arith, h.0))
 better_trans S R Q (inr h) (inr k) = inr (h.0 ∙ k.0, first_trans S R Q h.1 k.1)
 
-pub better_total : (S R : ℕ) → SetOf 64 S → SetOf 64 R → (S ≡ R) ⊎ (Better S R ⊎ Better R S)
-better_total S R p q = elim (cases_order (size S) (size R)) [
-  | inl e ↦ elim (first_or_same S R p q) [ inl same ↦ inl same | inr (inl f) ↦ inr (inl (inr (e, f))) | inr (inr f) ↦ inr (inr (inr (sym e, f))) ]
-  | inr (inl h) ↦ inr (inr (inl h))
-  | inr (inr h) ↦ inr (inl (inl h))
-]
-
 pub order_laws : OrderLaws
 order_laws = record {
   irreflexive = better_irrefl;
   transitive = better_trans;
-  connected = λ S R p q d. elim (better_total S R p q) [ inl e ↦ absurd (d e) | inr b ↦ b ];
+  connected = λ S R p q d. elim (cases_order (size S) (size R)) [
+    | inl e ↦ elim (first_or_same S R p q) [ inl same ↦ absurd (d same) | inr (inl f) ↦ inl (inr (e, f)) | inr (inr f) ↦ inr (inr (sym e, f)) ]
+    | inr (inl h) ↦ inr (inl h)
+    | inr (inr h) ↦ inl (inl h)
+  ];
 }
 
 -- ---- as the program compares
 
-agree : (b c : Bool) → differs b c ≡ false → b ≡ c
-agree true true e = refl
-agree true false e = absurd (subst T e tt)
-agree false true e = absurd (subst T e tt)
-agree false false e = refl
-
--- v is the smallest member of a set that has exactly those in which S and R differ
-by_first : (S R D v : ℕ) → size S ≡ size R → ((a : ℕ) → has D a ≡ differs (has S a) (has R a)) → T (has D v) → ((a : ℕ) → T (has D a) → v ≤ a)
-    → Tells (has S v) (Better S R)
-by_first S R D v same D_is at least = tells_by (has S v) yes' no'
-  where
-    apart : (b c : Bool) → T (differs b c) → T b → T c → ⊥
-    apart true true t x y = t
-    apart true false t x y = y
-    apart false c t x y = x
-
-    other : (b c : Bool) → T (differs b c) → (T b → ⊥) → T c
-    other true c t n = absurd (n tt)
-    other false c t n = t
-
-    below : (a : ℕ) → a < v → has S a ≡ has R a
-    below a h = agree (has S a) (has R a) (sym (D_is a) ∙ as_false (has D a) (λ t. let l = least a t in omega arith))
-
-    here : T (differs (has S v) (has R v))
-    here = subst T (D_is v) at
-
-    yes' : T (has S v) → Better S R
-    yes' t = inr (same, record { at = v; held = t; lacks = apart (has S v) (has R v) here t; below = below })
-
-    no' : (T (has S v) → ⊥) → Better S R → ⊥
-    no' n (inl m) = omega (arith, same)
-    no' n (inr (e, f)) = elim (cases_order f.at v) [
-      | inl q ↦ n (subst (λ (x : ℕ). T (has S x)) q f.held)
-      | inr (inl h) ↦ f.lacks (subst T (below f.at h) f.held)
-      | inr (inr h) ↦ n (subst T (sym (f.below v h)) (other (has S v) (has R v) here n))
-    ]
-
--- of a set and itself neither is better
-not_itself : (S R D : ℕ) → ((a : ℕ) → has D a ≡ differs (has S a) (has R a)) → ((a : ℕ) → has D a ≡ false) → Better S R → ⊥
-not_itself S R D D_is none b = better_irrefl R (subst (λ (x : ℕ). Better x R) same b)
-  where
-    same : S ≡ R
-    same = same_members S R (λ a. agree (has S a) (has R a) (sym (D_is a) ∙ none a))
-
 -- of two sets of one size, the smallest member in which they differ decides, if there is one
 pub first_decides : (S R D : ℕ) (first : Option ℕ) (b : Bool) → size S ≡ size R → ((a : ℕ) → has D a ≡ differs (has S a) (has R a)) → Smallest D first
     → MatchOption first (b ≡ false) (λ v. b ≡ has S v) → Tells b (Better S R)
-first_decides S R D None b same D_is none e = subst (λ (c : Bool). Tells c (Better S R)) (sym e) (not_itself S R D D_is none)
-first_decides S R D (Some v) b same D_is low e =
-    subst (λ (c : Bool). Tells c (Better S R)) (sym e) (by_first S R D v same D_is low.member low.least)
+first_decides S R D None b same D_is none e = rw e (λ h. better_irrefl R (subst (λ (x : ℕ). Better x R) (same_sets S R D D_is none) h))
+first_decides S R D (Some v) true same D_is low e = inr (same, holds_first S R D v D_is low (sym e))
+first_decides S R D (Some v) false same D_is low e = λ h. better_irrefl S (better_trans S R S h (inr (sym same, lacks_first S R D v D_is low (sym e))))

@@ -1,6 +1,7 @@
 -- The groups of the robust model are the published ones: paths that are apart are counted by the members between their ends. Assumes nothing.
-use Rattle.std.proofs.Common.{◌≡◌, ℕ, zero, suc, ◌+◌, ◌-◌, ◌≤◌, Bool, true, false, cond, not, ◌&&◌, ◌||◌, T, eqb, leb, ◌⊎◌, List, [], ◌∷◌, map, length, sym, refl, ap, ◌∙◌, subst, ap₂, inl, inr, zero-le, le_refl, arith, le→leb, eqb→eq, leb→le}
-use lib.Dec.{not_T}
+use Rattle.std.proofs.Common.{◌≡◌, ℕ, zero, suc, ◌+◌, ◌-◌, ◌≤◌, Bool, false, cond, not, ◌&&◌, ◌||◌, T, eqb, leb, List, [], ◌∷◌, map, length, sym, refl, ap, ◌∙◌, subst, ap₂, inl, inr, zero-le, le_refl, arith}
+use Rattle.std.proofs.lemmas.Bool.{cases_Bool}
+use Rattle.std.proofs.lemmas.Bool.Decides.{nat_tests}
 use Rattle.std.specs.List.{AllByRecursion}
 use Rattle.std.proofs.lemmas.List.{length-map}
 use Rattle.rules.specs.Sets.{has, inside, two_of, SetOf, tally}
@@ -8,12 +9,10 @@ use Rattle.rules.specs.Links.{Links, LawfulLinks, shared}
 use Rattle.rules.specs.Models.{AllPair, robust}
 use Rattle.rules.specs.Paths.{PathIn, path_length, Apart, EveryTwoApart, DisjointPaths}
 use Rattle.rules.specs.Published.{RobustClub, Agrees}
-use Rattle.rules.proofs.Tests.{passes, and_left, and_right, and_both, or_left, or_cases}
 use Rattle.rules.proofs.Tallies.{tally_without}
 use Rattle.rules.proofs.Members.{inside_from, inside_to}
-use Rattle.rules.proofs.Models.{two_from}
 use Rattle.rules.proofs.Ways.{Way, straight, by, Leads, path_by, way_path, way_short, path_way, ways_apart}
-use Rattle.rules.proofs.Published.{common, way_by, by_common, known}
+use Rattle.rules.proofs.Published.{common, way_by, by_common, known, agrees_by_pairs}
 
 -- ---- lists of different ways
 
@@ -24,13 +23,12 @@ abbrev Different : List Way → Type 0
 Different [] = Unit {0}
 Different (w ∷ ws) = AllByRecursion (Unlike w) ws × Different ws
 
-all_from : {X : Type 0} (P Q : X → Type 0) → ((x : X) → P x → Q x) → (xs : List X) → AllByRecursion P xs → AllByRecursion Q xs
-all_from P Q f [] p = tt
-all_from P Q f (x ∷ xs) p = (f x p.0, all_from P Q f xs p.1)
-
 all_both : {X : Type 0} (P Q R : X → Type 0) → ((x : X) → P x → Q x → R x) → (xs : List X) → AllByRecursion P xs → AllByRecursion Q xs → AllByRecursion R xs
 all_both P Q R f [] p q = tt
 all_both P Q R f (x ∷ xs) p q = (f x p.0 q.0, all_both P Q R f xs p.1 q.1)
+
+all_from : {X : Type 0} (P Q : X → Type 0) → ((x : X) → P x → Q x) → (xs : List X) → AllByRecursion P xs → AllByRecursion Q xs
+all_from P Q f xs p = all_both P P Q (λ x a b. f x a) xs p p
 
 all_map : {X Y : Type 0} (g : X → Y) (P : X → Type 0) (Q : Y → Type 0) → ((x : X) → P x → Q (g x)) → (xs : List X) → AllByRecursion P xs → AllByRecursion Q (map g xs)
 all_map g P Q f [] p = tt
@@ -57,17 +55,14 @@ passing_below p n (by k) (t, h) e = let same : suc n ≡ k = cc in omega arith
 
 choose : (p : ℕ → Bool) (n t : ℕ) → t ≤ tally p n → (ws : List Way) × (length ws ≡ t) × AllByRecursion (Passing p n) ws × Different ws
 unfolding tally
-choose p zero zero h = ([], refl, tt, tt)
+choose p n zero h = ([], refl, tt, tt)
 choose p zero (suc t) h = absurd (omega arith)
-choose p (suc n) t h = pick (p (suc n)) refl t h (λ s g. choose p n s g)
-  where
-    pick : (b : Bool) → p (suc n) ≡ b → (t : ℕ) → t ≤ cond b 1 0 + tally p n → ((s : ℕ) → s ≤ tally p n → (ws : List Way) × (length ws ≡ s) × AllByRecursion (Passing p n) ws × Different ws)
-        → (ws : List Way) × (length ws ≡ t) × AllByRecursion (Passing p (suc n)) ws × Different ws
-    pick false e t h rest = let (ws, q, c, d) = rest t (omega arith) in (ws, q, all_from _ _ (passing_up p n) ws c, d)
-    pick true e zero h rest = ([], refl, tt, tt)
-    pick true e (suc t) h rest =
-        let (ws, q, c, d) = rest t (omega arith) in
-        (by (suc n) ∷ ws, ap suc q, ((passes e, le_refl (suc n)), all_from _ _ (passing_up p n) ws c), (all_from _ _ (passing_below p n) ws c, d))
+choose p (suc n) (suc t) h = elim (cases_Bool (p (suc n))) [
+  | inl e ↦
+      let (ws, q, c, d) = choose p n t (grind (arith, nat_tests)) in
+      (by (suc n) ∷ ws, ap suc q, ((grind (arith, nat_tests), le_refl (suc n)), all_from _ _ (passing_up p n) ws c), (all_from _ _ (passing_below p n) ws c, d))
+  | inr e ↦ let (ws, q, c, d) = choose p n (suc t) (grind (arith, nat_tests)) in (ws, q, all_from _ _ (passing_up p n) ws c, d)
+]
 
 -- ---- no more different ways than pass
 
@@ -78,10 +73,12 @@ Allowed s p (by k) = T (p k) × T (inside 64 k)
 
 few_ways : (ws : List Way) (s : Bool) (p : ℕ → Bool) → AllByRecursion (Allowed s p) ws → Different ws → length ws ≤ cond s 1 0 + tally p 64
 few_ways [] s p a d = zero-le
-few_ways (straight ∷ ws) false p a d = absurd a.0
-few_ways (straight ∷ ws) true p a d = let h = few_ways ws false p (all_both (Unlike straight) (Allowed true p) (Allowed false p) bent ws d.0 a.1) d.1 in omega arith
+few_ways (straight ∷ ws) s p a d =
+    let h = few_ways ws false p (all_both (Unlike straight) (Allowed s p) (Allowed false p) bent ws d.0 a.1) d.1 in
+    let t = a.0 in
+    grind (arith, nat_tests)
   where
-    bent : (w : Way) → Unlike straight w → Allowed true p w → Allowed false p w
+    bent : (w : Way) → Unlike straight w → Allowed s p w → Allowed false p w
     bent straight u q = u refl
     bent (by k) u q = q
 few_ways (by k ∷ ws) s p a d =
@@ -91,7 +88,7 @@ few_ways (by k ∷ ws) s p a d =
   where
     other : (w : Way) → Unlike (by k) w → Allowed s p w → Allowed s (λ x. p x && not (eqb x k)) w
     other straight u q = q
-    other (by h) u (t, g) = (and_both (p h) (not (eqb h k)) t (not_T (eqb h k) (λ e. u (ap by (sym (eqb→eq h k e))))), g)
+    other (by h) u (t, g) = let d : h ≡ k → ⊥ = λ e. u (ap by (sym e)) in (grind (arith, nat_tests), g)
 
 -- ---- different ways as paths that are apart, and back
 
@@ -126,6 +123,9 @@ module _ (n : ℕ) (l : Links) (N : LawfulLinks n l) (S a b : ℕ) (i : T (has S
 
 -- ---- the rule
 
+linked_and : (b x : Bool) (t c : ℕ) → T (b && ((x && leb (t - 1) c) || leb t c)) → leb t c ≡ false → T x × (t - 1 ≤ c)
+linked_and b x t c p f = grind (arith, nat_tests)
+
 module _ (n : ℕ) (l : Links) (N : LawfulLinks n l) (S : ℕ) (small : SetOf n S) (t : ℕ) (some : 1 ≤ t) where
   passing_leads : (a b : ℕ) (w : Way) → Passing (common l S a b) 64 w → Leads l S a b w
   passing_leads a b straight q = absurd q
@@ -137,34 +137,28 @@ module _ (n : ℕ) (l : Links) (N : LawfulLinks n l) (S : ℕ) (small : SetOf n 
 
   pairs_robust : AllPair l (robust t) S → RobustClub t l S
   pairs_robust pair a b i j d =
-      paths (or_cases (l a b && leb (t - 1) (shared l a b S)) (leb t (shared l a b S)) (and_right (two_of S a b) ((l a b && leb (t - 1) (shared l a b S)) || leb t (shared l a b S)) (pair a b i j d)))
+      elim (cases_Bool (leb t (shared l a b S))) [
+        | inl f ↦
+            let (ws, e, c, u) = choose (common l S a b) 64 t (grind (arith, nat_tests)) in
+            made ws e (all_from _ _ (passing_leads a b) ws c) u
+        | inr f ↦
+            let (q, many) = linked_and (two_of S a b) (l a b) t (shared l a b S) (pair a b i j d) f in
+            let (ws, e, c, u) = choose (common l S a b) 64 (t - 1) many in
+            made (straight ∷ ws) (omega arith) (q, all_from _ _ (passing_leads a b) ws c) (all_from _ _ (passing_bent (common l S a b) 64) ws c, u)
+      ]
     where
       made : (ws : List Way) → length ws ≡ t → AllByRecursion (Leads l S a b) ws → Different ws → (ps : List (List ℕ)) × DisjointPaths t l S a b ps × AllByRecursion (λ p. path_length p ≤ 2) ps
-      made ws e leads different =
-          subst (λ (k : ℕ). (ps : List (List ℕ)) × DisjointPaths k l S a b ps × AllByRecursion (λ p. path_length p ≤ 2) ps) e (ways_paths n l N S a b i j d ws leads different)
-
-      paths : T (l a b && leb (t - 1) (shared l a b S)) ⊎ T (leb t (shared l a b S)) → (ps : List (List ℕ)) × DisjointPaths t l S a b ps × AllByRecursion (λ p. path_length p ≤ 2) ps
-      paths (inl q) =
-          let (ws, e, c, u) = choose (common l S a b) 64 (t - 1) (leb→le (t - 1) (shared l a b S) (and_right (l a b) (leb (t - 1) (shared l a b S)) q)) in
-          made (straight ∷ ws) (omega arith) (and_left (l a b) (leb (t - 1) (shared l a b S)) q, all_from _ _ (passing_leads a b) ws c) (all_from _ _ (passing_bent (common l S a b) 64) ws c, u)
-      paths (inr q) =
-          let (ws, e, c, u) = choose (common l S a b) 64 t (leb→le t (shared l a b S) q) in
-          made ws e (all_from _ _ (passing_leads a b) ws c) u
+      made ws e leads different = rw e at (ways_paths n l N S a b i j d ws leads different)
 
   robust_pairs : RobustClub t l S → AllPair l (robust t) S
   robust_pairs R a b i j d =
       let (ps, family, short) = R a b i j d in
       let (ws, same, leads, different) = paths_ways n l N S a b i j d ps family.paths family.apart short in
-      let many : length ws ≡ t = sym (length-map ws (path_by a b)) ∙ sym (ap length same) ∙ family.number in
-      and_both (two_of S a b) ((l a b && leb (t - 1) (shared l a b S)) || leb t (shared l a b S)) (two_from S a b i j d)
-      (enough_by (l a b) (shared l a b S) (subst (λ (k : ℕ). k ≤ cond (l a b) 1 0 + shared l a b S) many (few_ways ws (l a b) (common l S a b) (all_from _ _ (leads_allowed a b) ws leads) different)))
+      enough (family.number) (length-map ws (path_by a b)) (ap length same) (few_ways ws (l a b) (common l S a b) (all_from _ _ (leads_allowed a b) ws leads) different)
     where
-      enough_by : (s : Bool) (c : ℕ) → t ≤ cond s 1 0 + c → T ((s && leb (t - 1) c) || leb t c)
-      enough_by true c h = or_left (leb (t - 1) c) (leb t c) (le→leb (t - 1) c (omega arith))
-      enough_by false c h = le→leb t c (omega arith)
+      enough : {c d e : ℕ} → d ≡ t → e ≡ c → d ≡ e → c ≤ cond (l a b) 1 0 + shared l a b S → T (two_of S a b && ((l a b && leb (t - 1) (shared l a b S)) || leb t (shared l a b S)))
+      enough p q r h = grind (arith, nat_tests)
 
 pub robust_agrees : (t : ℕ) → 1 ≤ t → Agrees (robust t) (RobustClub t)
-robust_agrees t some n l S a N small i = (
-  (λ g. pairs_robust n l N S small t some g.all_pair),
-  λ c. record { members = small; some = (a, i); all_fit = λ x q. q; all_pair = robust_pairs n l N S small t some c },
-)
+robust_agrees t some =
+    agrees_by_pairs (λ x c. (x && leb (t - 1) c) || leb t c) (RobustClub t) (λ n l N S small. (pairs_robust n l N S small t some, robust_pairs n l N S small t some))

@@ -6,7 +6,6 @@ use Rattle.vocabulary.specs.declared.standing.Standing.TheVariants as standing
 use Rattle.rules.specs.Links.{Links}
 use Rattle.rules.specs.Models.{Meaning, AllFit, Group}
 use Rattle.rules.specs.Standings.{FirstNot, FirstApart, Stands}
-use Rattle.rules.proofs.Tests.{fails}
 
 one_first : (S : ℕ) (P : ℕ → Type 0) (a b : ℕ) → FirstNot S P a → FirstNot S P b → a ≡ b
 one_first S P a b x y = elim (cases_order a b) [
@@ -38,26 +37,26 @@ module _ (n : ℕ) (l : Links) (m : Meaning) (S : ℕ) where
 
   pub one_standing : (r s : Standing) → Stands n l m S r → Stands n l m S s → r ≡ s
   one_standing standing.Empty standing.Empty x y = refl
-  one_standing standing.Empty (standing.Unknown a) x y = absurd (fails (x a) y.member)
-  one_standing standing.Empty (standing.Loose a) x y = absurd (fails (x a) y.1.member)
-  one_standing standing.Empty (standing.Apart a b) x y = absurd (fails (x a) y.2.one)
-  one_standing standing.Empty standing.Group x y = absurd (fails (x y.some.0) y.some.1)
-  one_standing (standing.Unknown a) standing.Empty x y = absurd (fails (y a) x.member)
+  one_standing standing.Empty (standing.Unknown a) x y = absurd (subst T (x a) y.member)
+  one_standing standing.Empty (standing.Loose a) x y = absurd (subst T (x a) y.1.member)
+  one_standing standing.Empty (standing.Apart a b) x y = absurd (subst T (x a) y.2.one)
+  one_standing standing.Empty standing.Group x y = absurd (subst T (x y.some.0) y.some.1)
+  one_standing (standing.Unknown a) standing.Empty x y = absurd (subst T (y a) x.member)
   one_standing (standing.Unknown a) (standing.Unknown b) x y = ap standing.Unknown (one_first S _ a b x y)
   one_standing (standing.Unknown a) (standing.Loose b) x y = absurd (x.fails (y.0 a x.member))
   one_standing (standing.Unknown a) (standing.Apart b c) x y = absurd (x.fails (y.0 a x.member))
   one_standing (standing.Unknown a) standing.Group x y = absurd (x.fails (y.members a x.member))
-  one_standing (standing.Loose a) standing.Empty x y = absurd (fails (y a) x.1.member)
+  one_standing (standing.Loose a) standing.Empty x y = absurd (subst T (y a) x.1.member)
   one_standing (standing.Loose a) (standing.Unknown b) x y = absurd (y.fails (x.0 b y.member))
   one_standing (standing.Loose a) (standing.Loose b) x y = ap standing.Loose (one_first S _ a b x.1 y.1)
   one_standing (standing.Loose a) (standing.Apart b c) x y = absurd (loose_fits a x.1 y.1)
   one_standing (standing.Loose a) standing.Group x y = absurd (loose_fits a x.1 y.all_fit)
-  one_standing (standing.Apart a b) standing.Empty x y = absurd (fails (y a) x.2.one)
+  one_standing (standing.Apart a b) standing.Empty x y = absurd (subst T (y a) x.2.one)
   one_standing (standing.Apart a b) (standing.Unknown c) x y = absurd (y.fails (x.0 c y.member))
   one_standing (standing.Apart a b) (standing.Loose c) x y = absurd (loose_fits c y.1 x.1)
   one_standing (standing.Apart a b) (standing.Apart c d) x y = let e = one_apart a b c d x.2 y.2 in ap₂ standing.Apart e.0 e.1
   one_standing (standing.Apart a b) standing.Group x y = absurd (apart_group a b x.2 y)
-  one_standing standing.Group standing.Empty x y = absurd (fails (y x.some.0) x.some.1)
+  one_standing standing.Group standing.Empty x y = absurd (subst T (y x.some.0) x.some.1)
   one_standing standing.Group (standing.Unknown a) x y = absurd (y.fails (x.members a y.member))
   one_standing standing.Group (standing.Loose a) x y = absurd (loose_fits a y.1 x.all_fit)
   one_standing standing.Group (standing.Apart a b) x y = absurd (apart_group a b y.2 x)

@@ -1,7 +1,7 @@
 -- A loop over the members of a set: what is true of those that have come. Assumes nothing.
-use Rattle.std.proofs.Common.{◌≡◌, ℕ, ◌<◌, Bool, not, T, eqb, sym, ap, ◌∙◌, subst, inl, inr, arith, eqb→eq}
-use lib.Dec.{not_T}
+use Rattle.std.proofs.Common.{◌≡◌, ℕ, ◌<◌, Bool, T, sym, ap, ◌∙◌, subst, inl, inr, arith}
 use Rattle.std.proofs.lemmas.Bool.{cases_eq}
+use Rattle.std.proofs.lemmas.Bool.Decides.{nat_tests}
 use Rattle.std.specs.Prelude.{Option, Some, None, MatchOption, MatchBool, IfSome, List, [], ◌∷◌, true, false}
 use Rattle.std.specs.Iterator.{Yields, FindsItem, ChecksAny}
 use Rattle.std.specs.List.{FoldsTo}
@@ -13,7 +13,6 @@ use Rattle.rules.specs.Standings.{FirstNot}
 use Rattle.sets.specs.Steps.{Taken}
 use Rattle.sets.specs.declared.member_set.MemberSet.{MemberSet}
 use Rattle.sets.specs.declared.members.Members.{Members}
-use Rattle.rules.proofs.Tests.{fails, and_left, and_both}
 
 -- of the members of S, those that are still to come are rest, and P is true of all others
 pub record Swept (S : ℕ) (P : ℕ → Type 0) (rest : ℕ) : Type 0 where
@@ -33,15 +32,12 @@ sweep_earlier S P rest v w low a t h = w.passed a t (λ r. let g = low.least a r
 
 pub sweep_step : (S : ℕ) (P : ℕ → Type 0) (rest v left : ℕ) → Swept S P rest → Leaves rest v left → P v → Swept S P left
 sweep_step S P rest v left w leaves here = record {
-  within = λ a t. w.within a (and_left (has rest a) (not (eqb a v)) (subst T (leaves a) t));
-  passed = λ a t n. elim (cases_eq a v) [
-    | inl e ↦ subst P (sym e) here
-    | inr d ↦ w.passed a t (λ r. n (subst T (sym (leaves a)) (and_both (has rest a) (not (eqb a v)) r (not_T (eqb a v) (λ e. d (eqb→eq a v e))))))
-  ];
+  within = λ a t. let l = leaves a in w.within a (grind (arith, nat_tests));
+  passed = λ a t n. elim (cases_eq a v) [ inl e ↦ subst P (sym e) here | inr d ↦ let l = leaves a in w.passed a t (λ r. grind (arith, nat_tests)) ];
 }
 
 pub sweep_end : (S : ℕ) (P : ℕ → Type 0) (rest : ℕ) → Swept S P rest → EmptySet rest → (a : ℕ) → T (has S a) → P a
-sweep_end S P rest w none a t = w.passed a t (fails (none a))
+sweep_end S P rest w none a t = w.passed a t (subst T (none a))
 
 -- ---- a search among the members of a set, where a call of f at x leaves f as it is and answers whether x is what is looked for
 
