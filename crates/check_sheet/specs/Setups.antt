@@ -1,9 +1,9 @@
 -- A network with its model, as a line `N` asks for them. Assumes nothing.
-use Rattle.std.specs.Prelude.{◌≡◌, ℕ, Some, None, Ok, Err, Option, Result}
+use Rattle.std.specs.Prelude.{◌≡◌, ℕ, Option, Result}
 use Rattle.vocabulary.specs.declared.refusal.Refusal.{Refusal}
 use Rattle.vocabulary.specs.declared.model_kind.ModelKind.{ModelKind}
 use Rattle.rules.specs.Links.{Links, no_links}
-use Rattle.rules.specs.Refusals.{or_else, making_refusal}
+use Rattle.rules.specs.Refusals.{or_else, making_refusal, Answers}
 use Rattle.rules.specs.Models.{Meaning}
 use Rattle.rules.specs.Published.{Agrees}
 use Rattle.rules.specs.Kinds.{rule, published, parameter_refusal}
@@ -27,5 +27,4 @@ pub record Begun (n : ℕ) (k : ModelKind) (t : ℕ) (s : Setup) : Type 0 where
   pub agrees : Agrees (rule k t) (published k t)
 
 abbrev pub SetupMade : ℕ → ModelKind → ℕ → Result Setup Refusal → Type 0
-SetupMade n k t (Ok s) = (setup_refusal n k t ≡ None) × Begun n k t s
-SetupMade n k t (Err e) = setup_refusal n k t ≡ Some e
+SetupMade n k t r = Answers (setup_refusal n k t) (Begun n k t) r

@@ -15,7 +15,7 @@ pub(crate) fn answer(setup: &mut Option<Setup>, command: Command) -> Reply
     carry_out(setup, command).unwrap_or_else(Reply::Refused)
 }
 
-/// Network and model are made once, and before all else.
+/// Carries a command out. Network and model are made once, and before all else.
 fn carry_out(setup: &mut Option<Setup>, command: Command) -> Result<Reply, Refusal>
     ensures { Answered setup.old (says command) (reply_of result) setup.new }
 {

@@ -7,7 +7,7 @@ use vocabulary::model_kind::ModelKind;
 use vocabulary::refusal::Refusal;
 
 /// A network, and the model that says what its groups are.
-#[derive(Drop)]
+#[derive(Clone, Copy)]
 pub struct Setup {
     pub(crate) net: Matrix,
     pub(crate) model: AnyModel,

@@ -1,4 +1,4 @@
-//! What a model of groups is, and how a set stands under any model.
+//! What a model of groups is, models by a rule on two members, and how a set stands under any model.
 #![tactic(auto)]
 
 pub mod model;

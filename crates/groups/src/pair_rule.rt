@@ -9,7 +9,7 @@ use network::induced::Induced;
 pub trait PairRule {
     ghost enough: { Self → Bool → ℕ → Bool };
 
-    fn enough(&self, linked: bool, shared: u32) -> bool
+    fn is_enough(&self, linked: bool, shared: u32) -> bool
         ensures { result ≡ enough self.now linked shared };
 
     ghost grows: { (rule : Self) → Grows (enough rule) };
@@ -26,6 +26,6 @@ impl<R: PairRule> GroupModel for R {
     }
 
     fn pair(&self, part: &Induced<'_>, a: u32, b: u32) -> bool {
-        part.set.has_two(a, b) && self.enough(part.graph.linked(a, b), part.shared(a, b))
+        part.set.has_two(a, b) && self.is_enough(part.graph.linked(a, b), part.shared(a, b))
     }
 }

@@ -1,5 +1,4 @@
 //! The matrix, a kind of network with room for every link that 64 members can have.
 #![tactic(auto)]
 
-pub mod calls;
 pub mod matrix;

@@ -1,5 +1,5 @@
-ghost use Rattle.std.specs.Prelude.{nat_le};
 ghost use Rattle.vocabulary.specs.declared.model_kind.ModelKind.TheVariants as kind;
+ghost use Rattle.rules.specs.Models.{edge_triangle_enough};
 ghost use Rattle.rules.proofs.Models.{edge_triangle_grows};
 
 use crate::named_model::NamedModel;
@@ -13,20 +13,22 @@ use vocabulary::refusal::Refusal;
 pub struct EdgeTriangle;
 
 impl PairRule for EdgeTriangle {
-    ghost enough = { λ rule linked shared. nat_le 1 shared };
+    ghost enough = { λ rule. edge_triangle_enough };
 
     ghost grows = { λ rule. edge_triangle_grows };
 
-    fn enough(&self, linked: bool, shared: u32) -> bool {
+    fn is_enough(&self, linked: bool, shared: u32) -> bool {
         shared >= 1
     }
 }
 
 impl NamedModel for EdgeTriangle {
-    ghost kind = { kind.EdgeTriangle };
+    ghost KIND = { kind.EdgeTriangle };
+
+    const KIND: ModelKind = ModelKind::EdgeTriangle;
 
     fn new(t: u32) -> Result<EdgeTriangle, Refusal> {
-        check_parameter(ModelKind::EdgeTriangle, t)?;
+        check_parameter(Self::KIND, t)?;
         Ok(EdgeTriangle)
     }
 }

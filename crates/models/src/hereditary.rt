@@ -1,5 +1,6 @@
-ghost use Rattle.std.specs.Prelude.{◌+◌, ◌≤◌, ◌||◌, nat_le};
+ghost use Rattle.std.specs.Prelude.{◌≤◌};
 ghost use Rattle.vocabulary.specs.declared.model_kind.ModelKind.TheVariants as kind;
+ghost use Rattle.rules.specs.Models.{hereditary_enough};
 ghost use Rattle.rules.proofs.Models.{hereditary_grows};
 
 use crate::named_model::NamedModel;
@@ -16,20 +17,22 @@ pub struct Hereditary {
 }
 
 impl PairRule for Hereditary {
-    ghost enough = { λ rule linked shared. linked || nat_le (rule.t + 1) shared };
+    ghost enough = { λ rule. hereditary_enough rule.t };
 
     ghost grows = { λ rule. hereditary_grows rule.t };
 
-    fn enough(&self, linked: bool, shared: u32) -> bool {
+    fn is_enough(&self, linked: bool, shared: u32) -> bool {
         linked || shared >= self.t + 1
     }
 }
 
 impl NamedModel for Hereditary {
-    ghost kind = { kind.Hereditary };
+    ghost KIND = { kind.Hereditary };
+
+    const KIND: ModelKind = ModelKind::Hereditary;
 
     fn new(t: u32) -> Result<Hereditary, Refusal> {
-        check_parameter(ModelKind::Hereditary, t)?;
+        check_parameter(Self::KIND, t)?;
         Ok(Hereditary { t })
     }
 }

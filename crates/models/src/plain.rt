@@ -1,5 +1,5 @@
-ghost use Rattle.std.specs.Prelude.{◌||◌, nat_le};
 ghost use Rattle.vocabulary.specs.declared.model_kind.ModelKind.TheVariants as kind;
+ghost use Rattle.rules.specs.Models.{plain_enough};
 ghost use Rattle.rules.proofs.Models.{plain_grows};
 
 use crate::named_model::NamedModel;
@@ -13,20 +13,22 @@ use vocabulary::refusal::Refusal;
 pub struct Plain;
 
 impl PairRule for Plain {
-    ghost enough = { λ rule linked shared. linked || nat_le 1 shared };
+    ghost enough = { λ rule. plain_enough };
 
     ghost grows = { λ rule. plain_grows };
 
-    fn enough(&self, linked: bool, shared: u32) -> bool {
+    fn is_enough(&self, linked: bool, shared: u32) -> bool {
         linked || shared >= 1
     }
 }
 
 impl NamedModel for Plain {
-    ghost kind = { kind.Plain };
+    ghost KIND = { kind.Plain };
+
+    const KIND: ModelKind = ModelKind::Plain;
 
     fn new(t: u32) -> Result<Plain, Refusal> {
-        check_parameter(ModelKind::Plain, t)?;
+        check_parameter(Self::KIND, t)?;
         Ok(Plain)
     }
 }

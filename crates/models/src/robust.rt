@@ -1,5 +1,6 @@
-ghost use Rattle.std.specs.Prelude.{◌-◌, ◌≤◌, ◌&&◌, ◌||◌, nat_le};
+ghost use Rattle.std.specs.Prelude.{◌≤◌};
 ghost use Rattle.vocabulary.specs.declared.model_kind.ModelKind.TheVariants as kind;
+ghost use Rattle.rules.specs.Models.{robust_enough};
 ghost use Rattle.rules.proofs.Models.{robust_grows};
 
 use crate::named_model::NamedModel;
@@ -16,20 +17,22 @@ pub struct Robust {
 }
 
 impl PairRule for Robust {
-    ghost enough = { λ rule linked shared. (linked && nat_le (rule.t - 1) shared) || nat_le rule.t shared };
+    ghost enough = { λ rule. robust_enough rule.t };
 
     ghost grows = { λ rule. robust_grows rule.t };
 
-    fn enough(&self, linked: bool, shared: u32) -> bool {
+    fn is_enough(&self, linked: bool, shared: u32) -> bool {
         (linked && shared >= self.t - 1) || shared >= self.t
     }
 }
 
 impl NamedModel for Robust {
-    ghost kind = { kind.Robust };
+    ghost KIND = { kind.Robust };
+
+    const KIND: ModelKind = ModelKind::Robust;
 
     fn new(t: u32) -> Result<Robust, Refusal> {
-        check_parameter(ModelKind::Robust, t)?;
+        check_parameter(Self::KIND, t)?;
         Ok(Robust { t })
     }
 }

@@ -31,10 +31,12 @@ impl GroupModel for VertexTriangle {
 }
 
 impl NamedModel for VertexTriangle {
-    ghost kind = { kind.VertexTriangle };
+    ghost KIND = { kind.VertexTriangle };
+
+    const KIND: ModelKind = ModelKind::VertexTriangle;
 
     fn new(t: u32) -> Result<VertexTriangle, Refusal> {
-        check_parameter(ModelKind::VertexTriangle, t)?;
+        check_parameter(Self::KIND, t)?;
         Ok(VertexTriangle)
     }
 }

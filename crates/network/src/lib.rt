@@ -1,4 +1,4 @@
-//! Networks by their links, and the plain value that models read them from.
+//! Networks by their links, the graph that holds links by rows, and the part of it that a set induces.
 #![tactic(auto)]
 
 pub mod ends;

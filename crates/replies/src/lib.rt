@@ -1,4 +1,4 @@
-//! What is replied to a line about a sheet, and how often each kind of reply was given.
+//! What is replied to a line, and how often each kind of reply was given.
 #![tactic(auto)]
 
 pub mod reply;

@@ -40,7 +40,7 @@ impl Summary {
     }
 }
 
-/// A count that is as high as it can be stays there.
+/// Counts one up; a count that is as high as it can be stays there.
 fn one_more(count: &mut u64)
     ensures { count.new ≡ more count.old }
 {

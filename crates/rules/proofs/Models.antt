@@ -1,9 +1,9 @@
 -- The models obey the laws. Assumes nothing.
-use Rattle.std.proofs.Common.{◌≡◌, ℕ, suc, ◌+◌, ◌-◌, ◌≤◌, Bool, ◌&&◌, ◌||◌, T, leb, arith}
+use Rattle.std.proofs.Common.{◌≡◌, ℕ, suc, ◌≤◌, Bool, ◌&&◌, T, leb, arith}
 use Rattle.std.proofs.lemmas.Bool.Decides.{nat_tests}
 use Rattle.rules.specs.Sets.{has, Within}
 use Rattle.rules.specs.Links.{Links, LawfulLinks, shared}
-use Rattle.rules.specs.Models.{LawfulModel, in_triangle, by_count, Grows, plain, vertex_triangle}
+use Rattle.rules.specs.Models.{LawfulModel, in_triangle, by_count, Grows, plain, vertex_triangle, plain_enough, robust_enough, hereditary_enough, edge_triangle_enough}
 use Rattle.rules.proofs.Tallies.{tally_same, tally_mono}
 
 -- ---- the number shared
@@ -31,16 +31,16 @@ by_count_lawful test mono n l N = record {
   pairs_two = λ S a small t. grind (arith, nat_tests);
 }
 
-pub plain_grows : Grows (λ x c. x || leb 1 c)
+pub plain_grows : Grows plain_enough
 plain_grows x c d h t = grind (arith, nat_tests)
 
-pub robust_grows : (t : ℕ) → Grows (λ x c. (x && leb (t - 1) c) || leb t c)
+pub robust_grows : (t : ℕ) → Grows (robust_enough t)
 robust_grows t x c d h q = grind (arith, nat_tests)
 
-pub hereditary_grows : (t : ℕ) → Grows (λ x c. x || leb (t + 1) c)
+pub hereditary_grows : (t : ℕ) → Grows (hereditary_enough t)
 hereditary_grows t x c d h q = grind (arith, nat_tests)
 
-pub edge_triangle_grows : Grows (λ x c. leb 1 c)
+pub edge_triangle_grows : Grows edge_triangle_enough
 edge_triangle_grows x c d h t = grind (arith, nat_tests)
 
 -- ---- a triangle of a set is one of every set that holds it
@@ -62,4 +62,4 @@ vertex_triangle_lawful n l N = record {
 }
   where
     P : LawfulModel n l plain
-    P = by_count_lawful (λ x c. x || leb 1 c) plain_grows n l N
+    P = by_count_lawful plain_enough plain_grows n l N

@@ -1,11 +1,11 @@
 -- The models by name: parameter, rule and published definition of each. Assumes nothing.
-use Rattle.std.specs.Prelude.{◌≡◌, ℕ, Bool, not, ◌&&◌, Some, None, Ok, Err, Option, Result, ◌==◌, nat_le}
+use Rattle.std.specs.Prelude.{◌≡◌, ℕ, Bool, not, ◌&&◌, None, Option, Result, ◌==◌, nat_le}
 use Rattle.vocabulary.specs.declared.refusal.Refusal.{Refusal}
 use Rattle.vocabulary.specs.declared.refusal.Refusal.TheVariants.{BadParameter}
 use Rattle.vocabulary.specs.declared.model_kind.ModelKind.{ModelKind}
 use Rattle.vocabulary.specs.declared.model_kind.ModelKind.TheVariants as kind
 use Rattle.rules.specs.Links.{Links}
-use Rattle.rules.specs.Refusals.{try}
+use Rattle.rules.specs.Refusals.{try, Answers}
 use Rattle.rules.specs.Models.{Meaning, plain, robust, hereditary, vertex_triangle, edge_triangle}
 use Rattle.rules.specs.Published.{TwoClub, RobustClub, HereditaryClub, VertexTriangleClub, EdgeTriangleClub, Agrees}
 
@@ -37,5 +37,4 @@ parameter_refusal k t = try (not (in_range k t)) BadParameter None
 
 -- a model is made exactly when its parameter is in range; then it answers by its rule, and its groups are the published ones
 abbrev pub ModelMade : {M : Type 0} → (M → Meaning) → ModelKind → ℕ → Result M Refusal → Type 0
-ModelMade meaning k t (Ok m) = (parameter_refusal k t ≡ None) × (meaning m ≡ rule k t) × Agrees (meaning m) (published k t)
-ModelMade meaning k t (Err e) = parameter_refusal k t ≡ Some e
+ModelMade meaning k t r = Answers (parameter_refusal k t) (λ m. (meaning m ≡ rule k t) × Agrees (meaning m) (published k t)) r

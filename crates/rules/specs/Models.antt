@@ -41,29 +41,39 @@ in_triangle l S a = nat_le 1 (tally (λ b. has S b && (l a b && nat_le 1 (shared
 abbrev pub by_count : (Bool → ℕ → Bool) → Meaning
 by_count test = record { fits = λ l S a. has S a; pairs = λ l S a b. two_of S a b && test (l a b) (shared l a b S) }
 
--- the more two share, the better
+-- sharing more never turns a yes into a no
 abbrev pub Grows : (Bool → ℕ → Bool) → Type 0
 Grows test = (linked : Bool) (few many : ℕ) → few ≤ many → T (test linked few) → T (test linked many)
 
--- two pair when linked, or when they share at least one member of the set; each member fits
+-- when a link and the number shared are enough for two members to pair
+-- plain: linked, or at least one member shared
+abbrev pub plain_enough : Bool → ℕ → Bool
+plain_enough linked shared = linked || nat_le 1 shared
+
+-- robust: linked and at least t - 1 shared, or at least t shared
+abbrev pub robust_enough : ℕ → Bool → ℕ → Bool
+robust_enough t linked shared = (linked && nat_le (t - 1) shared) || nat_le t shared
+
+-- hereditary: linked, or at least t + 1 shared
+abbrev pub hereditary_enough : ℕ → Bool → ℕ → Bool
+hereditary_enough t linked shared = linked || nat_le (t + 1) shared
+
+-- edge triangle: at least one shared, linked or not
+abbrev pub edge_triangle_enough : Bool → ℕ → Bool
+edge_triangle_enough linked shared = nat_le 1 shared
+
 abbrev pub plain : Meaning
-plain = record { fits = λ l S a. has S a; pairs = λ l S a b. two_of S a b && (l a b || nat_le 1 (shared l a b S)) }
+plain = by_count plain_enough
 
--- two pair when linked and they share at least t - 1, or when they share at least t; each member fits
 abbrev pub robust : ℕ → Meaning
-robust t = record {
-  fits = λ l S a. has S a;
-  pairs = λ l S a b. two_of S a b && ((l a b && nat_le (t - 1) (shared l a b S)) || nat_le t (shared l a b S));
-}
+robust t = by_count (robust_enough t)
 
--- two pair when linked, or when they share at least t + 1; each member fits
 abbrev pub hereditary : ℕ → Meaning
-hereditary t = record { fits = λ l S a. has S a; pairs = λ l S a b. two_of S a b && (l a b || nat_le (t + 1) (shared l a b S)) }
+hereditary t = by_count (hereditary_enough t)
+
+abbrev pub edge_triangle : Meaning
+edge_triangle = by_count edge_triangle_enough
 
 -- two pair as in plain; a member fits when two members of the set are linked to it and to each other
 abbrev pub vertex_triangle : Meaning
 vertex_triangle = record { fits = λ l S a. has S a && in_triangle l S a; pairs = plain.pairs }
-
--- two pair when they share at least one member, linked or not; each member fits
-abbrev pub edge_triangle : Meaning
-edge_triangle = record { fits = λ l S a. has S a; pairs = λ l S a b. two_of S a b && nat_le 1 (shared l a b S) }

@@ -39,10 +39,14 @@ abbrev pub Checks : Option Refusal → Result (Unit {0}) Refusal → Type 0
 Checks refusal (Ok _) = refusal ≡ None
 Checks refusal (Err e) = refusal ≡ Some e
 
+-- taken where there is no refusal, and P is true of what is answered; else turned down with it
+abbrev pub Answers : {A : Type 0} → Option Refusal → (A → Type 0) → Result A Refusal → Type 0
+Answers refusal P (Ok x) = (refusal ≡ None) × P x
+Answers refusal P (Err e) = refusal ≡ Some e
+
 -- a new network has n members and no links
 abbrev pub Made : {N : Type 0} → (N → ℕ) → (N → Links) → ℕ → Result N Refusal → Type 0
-Made members links n (Ok net) = (making_refusal n ≡ None) × (members net ≡ n) × (links net ≡ no_links)
-Made members links n (Err e) = making_refusal n ≡ Some e
+Made members links n r = Answers (making_refusal n) (λ net. (members net ≡ n) × (links net ≡ no_links)) r
 
 -- done, and the links found are those after it; or turned down with the refusal, and they are as before
 abbrev pub Edited : Option Refusal → Links → Links → Links → Result (Unit {0}) Refusal → Type 0

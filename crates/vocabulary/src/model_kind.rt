@@ -1,6 +1,6 @@
 ghost use Rattle.vocabulary.specs.ModelKinds.{NamesModel};
 
-/// The models of a group by name.
+/// The models of groups, by name.
 #[derive(Clone, Copy, Debug, PartialEq, Eq)]
 pub enum ModelKind {
     Plain,

@@ -6,7 +6,7 @@ returns c =
     let named = c.in_ok-model.ensures in (
       rw made.0 named.0,
       record {
-        is = record { members = made.1; links = made.2; meaning = named.1 };
-        agrees = rw (← named.1) named.2;
+        is = record { members = made.1.0; links = made.1.1; meaning = named.1.0 };
+        agrees = rw (← named.1.0) named.1.1;
       },
     )

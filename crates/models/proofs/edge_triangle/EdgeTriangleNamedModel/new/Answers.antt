@@ -4,4 +4,4 @@ use Rattle.rules.proofs.Agreement.{made_agrees}
 use Rattle.models.proofs.edge_triangle.EdgeTriangleNamedModel.new.Goals as goal
 
 pub returns : goal.returns
-returns c = (c.in_ok-check_parameter.ensures, refl, made_agrees kind.EdgeTriangle c.args.t c.in_ok-check_parameter.ensures)
+returns c = (c.in_ok-check_parameter.ensures, (refl, made_agrees kind.EdgeTriangle c.args.t c.in_ok-check_parameter.ensures))

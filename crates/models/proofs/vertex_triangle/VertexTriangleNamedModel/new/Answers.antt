@@ -4,4 +4,4 @@ use Rattle.rules.proofs.Agreement.{made_agrees}
 use Rattle.models.proofs.vertex_triangle.VertexTriangleNamedModel.new.Goals as goal
 
 pub returns : goal.returns
-returns c = (c.in_ok-check_parameter.ensures, refl, made_agrees kind.VertexTriangle c.args.t c.in_ok-check_parameter.ensures)
+returns c = (c.in_ok-check_parameter.ensures, (refl, made_agrees kind.VertexTriangle c.args.t c.in_ok-check_parameter.ensures))

@@ -9,4 +9,4 @@ invariant_of-result c =
     record { lawful = lawful_rows c.args.n (replicate 64 c.empty.result) no_links (no_rows c.empty.result c.empty.ensures 64) (no_links_lawful c.args.n (search rules) (search rules)) }
 
 pub returns : goal.returns
-returns c = (search rules, search rules, no_rows c.empty.result c.empty.ensures 64)
+returns c = (search rules, (search rules, no_rows c.empty.result c.empty.ensures 64))

@@ -1,5 +1,5 @@
 use Rattle.network.proofs.Rows.{Gathered}
-use Rattle.network.proofs.graph.taking.linked_to.Given as goal
+use Rattle.network.proofs.graph.linked_to.Given as goal
 
 abbrev pub invariant-loop-b : goal.invariant-loop-b
 invariant-loop-b g l =

@@ -3,7 +3,7 @@ use Rattle.rules.specs.Links.{link_count}
 use Rattle.rules.proofs.Links.{count_few}
 use Rattle.network.specs.Graphs.{members_of, links_of}
 use Rattle.matrix.proofs.Counts.{one_less, unlink_taken}
-use Rattle.matrix.proofs.calls.MatrixNetwork.unlink.Goals as goal
+use Rattle.matrix.proofs.matrix.MatrixNetwork.unlink.Goals as goal
 
 fewer : (c : goal.In_ok-disconnect) → suc (link_count (members_of c.disconnect.new.self) (links_of c.disconnect.new.self)) ≡ c.args.self.now.count
 fewer c =

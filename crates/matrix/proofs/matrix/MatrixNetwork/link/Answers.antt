@@ -2,7 +2,7 @@ use Rattle.std.proofs.Common.{ℕ, sym, ap, ◌∙◌, arith}
 use Rattle.rules.specs.Links.{link_count}
 use Rattle.network.specs.Graphs.{members_of, links_of}
 use Rattle.matrix.proofs.Counts.{one_more, link_taken}
-use Rattle.matrix.proofs.calls.MatrixNetwork.link.Goals as goal
+use Rattle.matrix.proofs.matrix.MatrixNetwork.link.Goals as goal
 
 pub invariant_of-self-2 : goal.invariant_of-self-2
 invariant_of-self-2 c =
