@@ -20,9 +20,9 @@ module _ (n a b : ℕ) (l k : Links) (laws : LawfulLinks n l) (ends : ends_refus
   pub one_less : l a b ≡ true → k ≡ unlinking a b l → suc (link_count n k) ≡ link_count n l
   one_less held e = rw e (count_unlinking n a b two.one two.two two.differ l laws.both_ways held)
 
-  -- no refusal is left where neither end is refused
-  pub link_taken : l a b ≡ false → link_count n l < room → link_refusal n room l a b ≡ None
-  link_taken free few = grind (arith, nat_tests)
+-- no refusal is left where neither end is refused
+pub link_taken : (n a b : ℕ) (l : Links) → ends_refusal n a b None ≡ None → l a b ≡ false → link_count n l < room → link_refusal n room l a b ≡ None
+link_taken n a b l ends free few = grind (arith, nat_tests)
 
-  pub unlink_taken : l a b ≡ true → unlink_refusal n l a b ≡ None
-  unlink_taken held = grind (arith, nat_tests)
+pub unlink_taken : (n a b : ℕ) (l : Links) → ends_refusal n a b None ≡ None → l a b ≡ true → unlink_refusal n l a b ≡ None
+unlink_taken n a b l ends held = grind (arith, nat_tests)
