@@ -1,11 +1,10 @@
 -- The number of links after one more and one less, and the refusals that are left. Assumes nothing.
-use Rattle.std.proofs.Common.{◌≡◌, ℕ, suc, ◌<◌, Bool, true, false, not, leb, None, ap, ◌∙◌, arith}
-use Rattle.std.proofs.lemmas.Bool.{lt-leb}
-use Rattle.vocabulary.specs.declared.refusal.Refusal.TheVariants.{AlreadyLinked, NotLinked, NoRoom}
+use Rattle.std.proofs.Common.{◌≡◌, ℕ, suc, ◌<◌, true, false, None, arith}
+use Rattle.std.proofs.lemmas.Bool.Decides.{nat_tests}
 use Rattle.rules.specs.Links.{Links, LawfulLinks, linking, unlinking, link_count}
-use Rattle.rules.specs.Refusals.{try, ends_refusal, link_refusal, unlink_refusal}
+use Rattle.rules.specs.Refusals.{ends_refusal, link_refusal, unlink_refusal}
 use Rattle.rules.proofs.Links.{count_linking, count_unlinking, count_few}
-use Rattle.rules.proofs.Refusals.{TwoMembers, ends_passed, ends_rest}
+use Rattle.rules.proofs.Refusals.{TwoMembers, ends_passed}
 use Rattle.matrix.specs.Matrices.{room, NeverFull}
 
 pub never_full : NeverFull
@@ -16,17 +15,14 @@ module _ (n a b : ℕ) (l k : Links) (laws : LawfulLinks n l) (ends : ends_refus
   two = ends_passed n a b ends
 
   pub one_more : l a b ≡ false → k ≡ linking a b l → link_count n k ≡ suc (link_count n l)
-  one_more free e = ap (link_count n) e ∙ count_linking n a b two.one two.two two.differ l laws.both_ways free
+  one_more free e = rw e (count_linking n a b two.one two.two two.differ l laws.both_ways free)
 
   pub one_less : l a b ≡ true → k ≡ unlinking a b l → suc (link_count n k) ≡ link_count n l
-  one_less held e = ap (λ (x : Links). suc (link_count n x)) e ∙ count_unlinking n a b two.one two.two two.differ l laws.both_ways held
+  one_less held e = rw e (count_unlinking n a b two.one two.two two.differ l laws.both_ways held)
 
-  -- no refusal is left where neither end is refused
-  pub link_taken : l a b ≡ false → link_count n l < room → link_refusal n room l a b ≡ None
-  link_taken free few =
-      ends_rest n a b (try (l a b) AlreadyLinked (try (leb room (link_count n l)) NoRoom None)) ends
-      ∙ ap (λ (t : Bool). try t AlreadyLinked (try (leb room (link_count n l)) NoRoom None)) free
-      ∙ ap (λ (t : Bool). try t NoRoom None) (lt-leb room (link_count n l) few)
+-- no refusal is left where neither end is refused
+pub link_taken : (n a b : ℕ) (l : Links) → ends_refusal n a b None ≡ None → l a b ≡ false → link_count n l < room → link_refusal n room l a b ≡ None
+link_taken n a b l ends free few = grind (arith, nat_tests)
 
-  pub unlink_taken : l a b ≡ true → unlink_refusal n l a b ≡ None
-  unlink_taken held = ends_rest n a b (try (not (l a b)) NotLinked None) ends ∙ ap (λ (t : Bool). try (not t) NotLinked None) held
+pub unlink_taken : (n a b : ℕ) (l : Links) → ends_refusal n a b None ≡ None → l a b ≡ true → unlink_refusal n l a b ≡ None
+unlink_taken n a b l ends held = grind (arith, nat_tests)

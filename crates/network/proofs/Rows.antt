@@ -3,7 +3,7 @@ use Rattle.std.proofs.Common.{◌≡◌, ℕ, zero, suc, ◌-◌, Bool, false, n
 use mathlib.Core.Path.{fun_ext}
 use Rattle.std.proofs.lemmas.Bool.Decides.{nat_tests}
 use Rattle.rules.specs.Sets.{has, inside, size, EmptySet}
-use Rattle.rules.specs.Links.{Links, no_links, LawfulLinks, OnlyMembers, linking, unlinking, shared}
+use Rattle.rules.specs.Links.{Links, no_links, LawfulLinks, linking, unlinking, shared}
 use Rattle.rules.proofs.Digits.{nobody as nobody_in}
 use Rattle.rules.specs.Refusals.{ends_refusal}
 use Rattle.rules.proofs.Links.{linking_lawful, unlinking_lawful}
@@ -58,8 +58,8 @@ count_shared l a b S ra rb both all ea eb eboth eall =
     tally_same _ _ 64 (λ k h. let p = ea (suc k) in let q = eb (suc k) in let r = eboth (suc k) in let s = eall (suc k) in grind (arith, nat_tests))
 
 -- who is linked to nobody shares nobody
-pub unknown_shared : (n : ℕ) (l : Links) (a b S : ℕ) → OnlyMembers n l → (inside n a && inside n b) ≡ false → shared l a b S ≡ 0
-unknown_shared n l a b S only out = tally_same _ (λ k. false) 64 (λ k h. let p = only a (suc k) in let q = only b (suc k) in grind (arith, nat_tests)) ∙ tally_none 64
+pub unknown_shared : (n : ℕ) (l : Links) (a b S : ℕ) → LawfulLinks n l → (inside n a && inside n b) ≡ false → shared l a b S ≡ 0
+unknown_shared n l a b S laws out = tally_same _ (λ k. false) 64 (λ k h. let p = laws.only_members a (suc k) in let q = laws.only_members b (suc k) in grind (arith, nat_tests)) ∙ tally_none 64
 
 -- ---- one link more, and one less
 
@@ -80,8 +80,8 @@ module _ (rows : List MemberSet) (n a b : ℕ) (q r : MemberSet) (long : length 
 
   pub connected : ((y : ℕ) → has q.word y ≡ ((eqb y b && inside 64 b) || has (get_or rows (a - 1) nobody).word y))
       → ((y : ℕ) → has r.word y ≡ ((eqb y a && inside 64 a) || has (get_or (set rows (a - 1) q) (b - 1) nobody).word y))
-      → (adjacent after ≡ linking a b (adjacent rows)) × LawfulLinks n (adjacent after)
-  connected wrote_a wrote_b = (e, rw e (linking_lawful n a b (adjacent rows) two laws))
+      → LawfulLinks n (adjacent after) × (adjacent after ≡ linking a b (adjacent rows))
+  connected wrote_a wrote_b = (rw e (linking_lawful n a b (adjacent rows) two laws), e)
     where
       at : (x y : ℕ) → adjacent after x y ≡ linking a b (adjacent rows) x y
       at zero y = let t = two in grind (arith, nat_tests)
@@ -92,8 +92,8 @@ module _ (rows : List MemberSet) (n a b : ℕ) (q r : MemberSet) (long : length 
 
   pub disconnected : ((y : ℕ) → has q.word y ≡ (has (get_or rows (a - 1) nobody).word y && not (eqb y b)))
       → ((y : ℕ) → has r.word y ≡ (has (get_or (set rows (a - 1) q) (b - 1) nobody).word y && not (eqb y a)))
-      → (adjacent after ≡ unlinking a b (adjacent rows)) × LawfulLinks n (adjacent after)
-  disconnected wrote_a wrote_b = (e, rw e (unlinking_lawful n a b (adjacent rows) laws))
+      → LawfulLinks n (adjacent after) × (adjacent after ≡ unlinking a b (adjacent rows))
+  disconnected wrote_a wrote_b = (rw e (unlinking_lawful n a b (adjacent rows) laws), e)
     where
       at : (x y : ℕ) → adjacent after x y ≡ unlinking a b (adjacent rows) x y
       at zero y = let t = two in grind (arith, nat_tests)

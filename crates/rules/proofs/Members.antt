@@ -15,7 +15,7 @@ pub same_members : SameMembers
 unfolding has
 same_members S R e = same_from_bits S R (λ k. let d = e (suc k) in let s = bit_at-lt S k in let r = bit_at-lt R k in grind (arith, nat_tests))
 
-pub no_members : (S : ℕ) → S ≡ 0 → EmptySet S
+no_members : (S : ℕ) → S ≡ 0 → EmptySet S
 no_members S e a = rw e (nobody a)
 
 empty_word : (S : ℕ) → EmptySet S → S ≡ 0
@@ -84,10 +84,15 @@ size_laws = record {
 
 -- ---- the smallest member
 
-pub smallest : (S : ℕ) → (S ≡ 0 → ⊥) → S < 2 ^ 64 → Lowest S (count_trailing_zeros 64 S + 1)
+some_word : (S : ℕ) → (EmptySet S → ⊥) → 0 < S
+some_word zero some = absurd (some nobody)
+some_word (suc S) some = omega arith
+
+pub smallest : (S : ℕ) → (EmptySet S → ⊥) → S < 2 ^ 64 → Lowest S (count_trailing_zeros 64 S + 1)
 unfolding has
-smallest S d h =
-    let (few, one, below) = bit_at-trailing_zeros w64 S (omega arith) h in
+smallest S some h =
+    let d = some_word S some in
+    let (few, one, below) = bit_at-trailing_zeros w64 S d h in
     rw add-one (record {
       number = grind (arith, nat_tests);
       member = grind (arith, nat_tests);
@@ -101,4 +106,4 @@ smallest S d h =
 -- a set that is not empty has a member
 pub some_tells : (S : ℕ) (b : Bool) → S < 2 ^ 64 → Tells b (EmptySet S) → Tells (not b) ((a : ℕ) × T (has S a))
 some_tells S true h none = λ p. let n = none p.0 in let t = p.1 in grind (arith, nat_tests)
-some_tells S false h some = (count_trailing_zeros 64 S + 1, (smallest S (λ e. some (no_members S e)) h).member)
+some_tells S false h some = (count_trailing_zeros 64 S + 1, (smallest S some h).member)

@@ -8,7 +8,7 @@ use Rattle.std.specs.Prelude.{Option, Some, None, MatchOption}
 use Rattle.rules.specs.Sets.{Tells, differs, has, SetOf, size, Smallest, Lowest}
 use Rattle.rules.specs.Order.{HoldsFirst, Better, OrderLaws}
 use Rattle.rules.proofs.Digits.{has_xor}
-use Rattle.rules.proofs.Members.{same_members, no_members, set_word, smallest}
+use Rattle.rules.proofs.Members.{same_members, set_word, smallest}
 
 -- ---- the smallest number in which two sets differ
 
@@ -31,10 +31,10 @@ same_sets S R D D_is none = same_members S R (λ a. let d = D_is a in let n = no
 first_or_same : (S R : ℕ) → SetOf 64 S → SetOf 64 R → (S ≡ R) ⊎ (HoldsFirst S R ⊎ HoldsFirst R S)
 first_or_same S R p q =
     let D = bit_xor S R in
-    elim (cases_eq D 0) [
-      | inl e ↦ inl (same_sets S R D (has_xor S R) (no_members D e))
+    elim (cases_eq S R) [
+      | inl e ↦ inl e
       | inr d ↦
-          let low = smallest D d (set_word 64 D (λ a t. let x = has_xor S R a in let i = p a in let j = q a in grind (arith, nat_tests))) in
+          let low = smallest D (λ none. d (same_sets S R D (has_xor S R) none)) (set_word 64 D (λ a t. let x = has_xor S R a in let i = p a in let j = q a in grind (arith, nat_tests))) in
           elim (cases_Bool (has S (count_trailing_zeros 64 D + 1))) [
             | inl t ↦ inr (inl (holds_first S R D _ (has_xor S R) low t))
             | inr f ↦ inr (inr (lacks_first S R D _ (has_xor S R) low f))

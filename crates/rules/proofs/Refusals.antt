@@ -1,7 +1,6 @@
 -- What follows from a refusal of the ends of a link, given or not. Assumes nothing.
-use Rattle.std.proofs.Common.{◌≡◌, ℕ, T, None, Option, arith}
+use Rattle.std.proofs.Common.{◌≡◌, ℕ, T, None, arith}
 use Rattle.std.proofs.lemmas.Bool.Decides.{nat_tests}
-use Rattle.vocabulary.specs.declared.refusal.Refusal.{Refusal}
 use Rattle.rules.specs.Sets.{inside}
 use Rattle.rules.specs.Refusals.{ends_refusal}
 
@@ -12,6 +11,3 @@ pub record TwoMembers (n a b : ℕ) : Type 0 where
 
 pub ends_passed : (n a b : ℕ) → ends_refusal n a b None ≡ None → TwoMembers n a b
 ends_passed n a b q = record { one = grind (arith, nat_tests); two = grind (arith, nat_tests); differ = λ e. grind (arith, nat_tests) }
-
-pub ends_rest : (n a b : ℕ) (rest : Option Refusal) → ends_refusal n a b None ≡ None → ends_refusal n a b rest ≡ rest
-ends_rest n a b rest q = grind (arith, nat_tests)

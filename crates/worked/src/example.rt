@@ -29,6 +29,7 @@ impl Example {
     }
 
     /// The links, each once, by its two ends.
+    #[tactic(auto, using(rules::proofs::Worked::worked_facts))]
     pub fn links(self) -> &'static [(u32, u32)]
         ensures value { result.now ≡ (network_of self).links }
         ensures facts { WorkedFacts }

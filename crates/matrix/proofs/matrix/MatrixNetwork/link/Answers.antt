@@ -8,13 +8,11 @@ pub invariant_of-self-2 : goal.invariant_of-self-2
 invariant_of-self-2 c =
     let m = c.args.self.now in
     let done = c.in_ok-connect.ensures in
-    let more = one_more (members_of m.graph) c.args.a c.args.b (links_of m.graph) (links_of c.connect.new.self) m.graph.lawful done.after.0
-    (sym c.linked.ensures ∙ c.if-linked.false) done.after.1 in
+    let more = one_more _ _ _ _ _ m.graph.lawful done.after.0 (sym c.linked.ensures ∙ c.if-linked.false) done.after.1 in
     record { counted = omega (arith, m.counted, more, ap (λ (n : ℕ). link_count n (links_of c.connect.new.self)) done.members) }
 
 pub returns-clause-after : goal.returns-clause-after
 returns-clause-after c =
     let m = c.args.self.now in
     let done = c.in_ok-connect.ensures in
-    let free = sym c.linked.ensures ∙ c.if-linked.false in
-    (link_taken (members_of m.graph) c.args.a c.args.b (links_of m.graph) (links_of m.graph) m.graph.lawful done.after.0 free (omega (arith, m.counted)), done.after.1)
+    (link_taken (members_of m.graph) c.args.a c.args.b (links_of m.graph) done.after.0 (sym c.linked.ensures ∙ c.if-linked.false) (omega (arith, m.counted)), done.after.1)

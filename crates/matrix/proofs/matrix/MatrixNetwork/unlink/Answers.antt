@@ -9,8 +9,7 @@ fewer : (c : goal.In_ok-disconnect) → suc (link_count (members_of c.disconnect
 fewer c =
     let m = c.args.self.now in
     let done = c.in_ok-disconnect.ensures in
-    let less = one_less (members_of m.graph) c.args.a c.args.b (links_of m.graph) (links_of c.disconnect.new.self) m.graph.lawful done.after.0
-    (sym c.linked.ensures ∙ c.if-not-linked.false) done.after.1 in
+    let less = one_less _ _ _ _ _ m.graph.lawful done.after.0 (sym c.linked.ensures ∙ c.if-not-linked.false) done.after.1 in
     omega (arith, m.counted, less, ap (λ (n : ℕ). link_count n (links_of c.disconnect.new.self)) done.members)
 
 pub overflow_sub-self : goal.overflow_sub-self
@@ -23,13 +22,11 @@ pub returns-clause-after : goal.returns-clause-after
 returns-clause-after c =
     let m = c.args.self.now in
     let done = c.in_ok-disconnect.ensures in
-    let held = sym c.linked.ensures ∙ c.if-not-linked.false in
-    (unlink_taken (members_of m.graph) c.args.a c.args.b (links_of m.graph) (links_of m.graph) m.graph.lawful done.after.0 held, done.after.1)
+    (unlink_taken (members_of m.graph) c.args.a c.args.b (links_of m.graph) done.after.0 (sym c.linked.ensures ∙ c.if-not-linked.false), done.after.1)
 
 pub returns-clause-freed : goal.returns-clause-freed
 returns-clause-freed c =
     let m = c.args.self.now in
     let done = c.in_ok-disconnect.ensures in
-    let less = one_less (members_of m.graph) c.args.a c.args.b (links_of m.graph) (links_of c.disconnect.new.self) m.graph.lawful done.after.0
-    (sym c.linked.ensures ∙ c.if-not-linked.false) done.after.1 in
+    let less = one_less _ _ _ _ _ m.graph.lawful done.after.0 (sym c.linked.ensures ∙ c.if-not-linked.false) done.after.1 in
     omega (arith, less, count_few (members_of m.graph) (links_of m.graph) m.graph.lawful.few)

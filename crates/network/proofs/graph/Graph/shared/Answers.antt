@@ -14,5 +14,5 @@ returns c =
     c.intersection.result.word c.intersection-2.result.word c.neighbours.ensures c.neighbours-2.ensures c.intersection.ensures c.intersection-2.ensures in
     record {
       value = value;
-      unknown = λ out. value ∙ unknown_shared (members_of graph) (links_of graph) c.args.a c.args.b S graph.lawful.only_members out;
+      unknown = λ out. value ∙ unknown_shared (members_of graph) (links_of graph) c.args.a c.args.b S graph.lawful out;
     }
