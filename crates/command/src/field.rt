@@ -9,7 +9,7 @@ use vocabulary::model_kind::ModelKind;
 const MOST_DIGITS: usize = 7;
 
 /// What stands behind the space in front.
-pub(crate) fn after_space(s: &[u8]) -> Option<&[u8]>
+fn after_space(s: &[u8]) -> Option<&[u8]>
     ensures { elim result [ Some rest ↦ s.now ≡ 32 ∷ rest.now | None ↦ ((rest : List ℕ) → s.now ≢ 32 ∷ rest) ] }
 {
     s.strip_prefix(b" ")

@@ -20,7 +20,7 @@ pub fn read_sheet(graph: &Graph, sheet: &[u8]) -> Result<MemberSet, Refusal>
     let mut named = MemberSet::empty();
     for number in sheet {
         let a = u32::from(*number);
-        if a < 1 || a > n {
+        if !(1..=n).contains(&a) {
             return Err(Refusal::OutOfRange);
         }
         if named.has(a) {

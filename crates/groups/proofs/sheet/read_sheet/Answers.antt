@@ -8,12 +8,12 @@ use Rattle.groups.proofs.sheet.read_sheet.Goals as goal
 pub loop-number-init : goal.loop-number-init
 loop-number-init c = naming_start (members_of c.args.graph.now) c.args.sheet.now c.empty-named.result.word (eqb-false _ _ (sym c.if-is_empty.ensures)) c.empty-named.ensures
 
-pub returns-then-a-lt1 : goal.returns-then-a-lt1
-returns-then-a-lt1 c =
+pub returns-then-not-contains : goal.returns-then-not-contains
+returns-then-not-contains c =
     let here = naming_next (members_of c.args.graph.now) c.args.sheet.now c.loop-number.number-index c.loop-number.named.word c.loop-number.invariant c.loop-number-test.true in
     let a = c.from-a.ensures in
     let n = c.n-n.ensures.value in
-    let out = c.then-a-lt1.either in
+    let out = c.contains.ensures in
     grind (arith, nat_tests)
 
 pub returns-then-has : goal.returns-then-has
