@@ -163,7 +163,7 @@ module _ (n : ℕ) (l : Links) (m : Meaning) (S : ℕ) where
 -- ---- what is known of a small network
 
 module _ (net : SmallNetwork) (k : ModelKind) (t : ℕ) where
-  abbrev pub n : ℕ
+  abbrev n : ℕ
   n = net.members
 
   abbrev l : Links

@@ -2,7 +2,7 @@
 use Rattle.std.proofs.Common.{◌≡◌, ℕ, ◌+◌, Bool, true, false, T, ◌⊎◌, sym, ◌∙◌, subst, inl, inr, arith}
 use lib.Bits.{bit_xor}
 use lib.Count.{count_trailing_zeros}
-use Rattle.std.proofs.lemmas.Bool.{cases_Bool, cases_eq, cases_order}
+use Rattle.std.proofs.lemmas.Bool.{cases_Bool, cases_order}
 use Rattle.std.proofs.lemmas.Bool.Decides.{nat_tests}
 use Rattle.std.specs.Prelude.{Option, Some, None, MatchOption}
 use Rattle.rules.specs.Sets.{Tells, differs, has, SetOf, size, Smallest, Lowest}
@@ -28,18 +28,12 @@ lacks_first S R D v D_is low f =
 same_sets : (S R D : ℕ) → ((a : ℕ) → has D a ≡ differs (has S a) (has R a)) → ((a : ℕ) → has D a ≡ false) → S ≡ R
 same_sets S R D D_is none = same_members S R (λ a. let d = D_is a in let n = none a in grind (arith, nat_tests))
 
-first_or_same : (S R : ℕ) → SetOf 64 S → SetOf 64 R → (S ≡ R) ⊎ (HoldsFirst S R ⊎ HoldsFirst R S)
-first_or_same S R p q =
+first_differs : (S R : ℕ) → SetOf 64 S → SetOf 64 R → (S ≡ R → ⊥) → HoldsFirst S R ⊎ HoldsFirst R S
+first_differs S R p q d =
     let D = bit_xor S R in
-    elim (cases_eq S R) [
-      | inl e ↦ inl e
-      | inr d ↦
-          let low = smallest D (λ none. d (same_sets S R D (has_xor S R) none)) (set_word 64 D (λ a t. let x = has_xor S R a in let i = p a in let j = q a in grind (arith, nat_tests))) in
-          elim (cases_Bool (has S (count_trailing_zeros 64 D + 1))) [
-            | inl t ↦ inr (inl (holds_first S R D _ (has_xor S R) low t))
-            | inr f ↦ inr (inr (lacks_first S R D _ (has_xor S R) low f))
-          ]
-    ]
+    let small = set_word 64 D (λ a t. let x = has_xor S R a in let i = p a in let j = q a in grind (arith, nat_tests)) in
+    let low = smallest D (λ none. d (same_sets S R D (has_xor S R) none)) small in
+    elim (cases_Bool (has S (count_trailing_zeros 64 D + 1))) [ inl t ↦ inl (holds_first S R D _ (has_xor S R) low t) | inr f ↦ inr (lacks_first S R D _ (has_xor S R) low f) ]
 
 -- ---- laws
 
@@ -65,7 +59,7 @@ order_laws = record {
   irreflexive = better_irrefl;
   transitive = better_trans;
   connected = λ S R p q d. elim (cases_order (size S) (size R)) [
-    | inl e ↦ elim (first_or_same S R p q) [ inl same ↦ absurd (d same) | inr (inl f) ↦ inl (inr (e, f)) | inr (inr f) ↦ inr (inr (sym e, f)) ]
+    | inl e ↦ elim (first_differs S R p q d) [ inl f ↦ inl (inr (e, f)) | inr f ↦ inr (inr (sym e, f)) ]
     | inr (inl h) ↦ inr (inl h)
     | inr (inr h) ↦ inl (inl h)
   ];
