@@ -32,6 +32,7 @@ fn carry_out(setup: &mut Option<Setup>, command: Command) -> Result<Reply, Refus
             let standing = judge_sheet(&current.net, &current.model, sheet.as_slice())?;
             Ok(Reply::Judged(standing))
         }
-        _ => Ok(Reply::Unreadable),
+        (None, Command::Link(..) | Command::Sheet(_)) => Ok(Reply::Unreadable),
+        (Some(_), Command::Network { .. }) => Ok(Reply::Unreadable),
     }
 }

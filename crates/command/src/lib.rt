@@ -16,7 +16,7 @@ use vocabulary::model_kind::ModelKind;
 pub const MOST_NUMBERS: usize = LONGEST / 2;
 
 /// What a line asks for.
-#[derive(Clone, Debug, Drop, PartialEq)]
+#[derive(Clone, Debug, Drop, PartialEq, Eq)]
 pub enum Command {
     Network { n: u32, model: ModelKind, t: u32 },
     Link(u32, u32),

@@ -8,8 +8,8 @@ use Rattle.rules.specs.Sets.{has, inside, EmptySet, SetOf, Lowest}
 use Rattle.rules.specs.Links.{Links, LawfulLinks}
 use Rattle.rules.specs.Models.{Meaning, LawfulModel, AllFit}
 use Rattle.std.specs.Prelude.{Option, Some, None, MatchOption}
-use Rattle.rules.specs.Standings.{FirstNot, FirstLoose, PairsAbove, FirstApart, Stands, StandsOnly}
-use Rattle.groups.specs.Searches.{NextApart, FirstAbove}
+use Rattle.rules.specs.Standings.{FirstNot, FirstLoose, PairsAbove, NextApart, FirstApart, Stands, StandsOnly}
+use Rattle.groups.specs.Searches.{FirstAbove}
 use Rattle.rules.proofs.Members.{inside_from, inside_to, inside_of, set_word, some_tells}
 use Rattle.rules.proofs.Standings.{one_standing}
 use Rattle.sets.proofs.Sweeping.{Swept, sweep_earlier}
@@ -40,14 +40,7 @@ found_loose l m S None all = all
 found_loose l m S (Some a) first = first
 
 pub first_apart : (l : Links) (m : Meaning) (S rest a b : ℕ) → Swept S (PairsAbove l m S) rest → Lowest rest a → NextApart l m S a b → FirstApart l m S a b
-first_apart l m S rest a b swept low next = record {
-  one = swept.within a low.member;
-  two = next.member;
-  above = next.above;
-  unpaired = next.unpaired;
-  smallest = sweep_earlier S _ rest a swept low;
-  next = next.next;
-}
+first_apart l m S rest a b swept low next = record { one = swept.within a low.member; two = next; smallest = sweep_earlier S _ rest a swept low }
 
 -- ---- how a set stands; B has the members of S that the network does not
 

@@ -1,7 +1,7 @@
 ghost use Rattle.std.specs.Prelude.{◌≡◌, ℕ};
 ghost use Rattle.rules.specs.Links.{Links, LawfulLinks};
 ghost use Rattle.rules.specs.Models.{Meaning, LawfulModel};
-ghost use Rattle.network.specs.Graphs.{links_of};
+ghost use Rattle.network.specs.Parts.{links_in, set_in};
 
 use network::induced::Induced;
 
@@ -11,11 +11,11 @@ pub trait GroupModel {
 
     /// Whether the member a fits the set.
     fn fits(&self, part: &Induced<'_>, a: u32) -> bool
-        ensures { result ≡ (meaning self.now).fits (links_of part.now.graph.now) part.now.set.word a };
+        ensures { result ≡ (meaning self.now).fits (links_in part.now) (set_in part.now) a };
 
     /// Whether the two different members a and b pair in the set.
     fn pair(&self, part: &Induced<'_>, a: u32, b: u32) -> bool
-        ensures { result ≡ (meaning self.now).pairs (links_of part.now.graph.now) part.now.set.word a b };
+        ensures { result ≡ (meaning self.now).pairs (links_in part.now) (set_in part.now) a b };
 
     ghost lawful: { (m : Self) (n : ℕ) (l : Links) → LawfulLinks n l → LawfulModel n l (meaning m) };
 }

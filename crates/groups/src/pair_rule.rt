@@ -9,6 +9,7 @@ use network::induced::Induced;
 pub trait PairRule {
     ghost enough: { Self → Bool → ℕ → Bool };
 
+    /// Whether two members pair.
     fn is_enough(&self, linked: bool, shared: u32) -> bool
         ensures { result ≡ enough self.now linked shared };
 

@@ -1,5 +1,6 @@
 ghost use Rattle.rules.specs.Standings.{FirstLoose, FirstUnpaired, StandsOnly};
-ghost use Rattle.network.specs.Graphs.{members_of, links_of};
+ghost use Rattle.network.specs.Graphs.{members_of};
+ghost use Rattle.network.specs.Parts.{links_in, set_in};
 ghost use Rattle.groups.specs.Searches.{FirstAbove};
 
 use crate::model::GroupModel;
@@ -8,14 +9,14 @@ use vocabulary::standing::Standing;
 
 /// The smallest member of the set that does not fit it.
 pub fn first_loose<M: GroupModel>(model: &M, part: &Induced<'_>) -> Option<u32>
-    ensures { FirstLoose (links_of part.now.graph.now) (M.GroupModel.meaning model.now) part.now.set.word result }
+    ensures { FirstLoose (links_in part.now) (M.GroupModel.meaning model.now) (set_in part.now) result }
 {
     part.set.members().find(|a| !model.fits(part, *a))
 }
 
 /// The smallest member of the set, then the smallest above it, that do not pair in the set.
 pub fn first_unpaired<M: GroupModel>(model: &M, part: &Induced<'_>) -> Option<(u32, u32)>
-    ensures { FirstUnpaired (links_of part.now.graph.now) (M.GroupModel.meaning model.now) part.now.set.word result }
+    ensures { FirstUnpaired (links_in part.now) (M.GroupModel.meaning model.now) (set_in part.now) result }
 {
     for a in part.set.members() {
         if let Some(b) = first_apart(model, part, a) {
@@ -27,7 +28,7 @@ pub fn first_unpaired<M: GroupModel>(model: &M, part: &Induced<'_>) -> Option<(u
 
 /// The smallest member of the set above a that does not pair with a in the set.
 fn first_apart<M: GroupModel>(model: &M, part: &Induced<'_>, a: u32) -> Option<u32>
-    ensures { FirstAbove (links_of part.now.graph.now) (M.GroupModel.meaning model.now) part.now.set.word a result }
+    ensures { FirstAbove (links_in part.now) (M.GroupModel.meaning model.now) (set_in part.now) a result }
 {
     part.set
         .above(a)
@@ -37,7 +38,7 @@ fn first_apart<M: GroupModel>(model: &M, part: &Induced<'_>, a: u32) -> Option<u
 
 /// How the set stands in the network under the model: a group of it, or the first thing that is wrong.
 pub fn check_group<M: GroupModel>(model: &M, part: &Induced<'_>) -> Standing
-    ensures { StandsOnly (members_of part.now.graph.now) (links_of part.now.graph.now) (M.GroupModel.meaning model.now) part.now.set.word result }
+    ensures { StandsOnly (members_of part.now.graph.now) (links_in part.now) (M.GroupModel.meaning model.now) (set_in part.now) result }
 {
     let Induced { graph, set } = *part;
     if set.is_empty() {

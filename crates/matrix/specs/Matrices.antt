@@ -2,15 +2,15 @@
 use Rattle.std.specs.Prelude.{◌≡◌, ℕ, ◌<◌, false, T, ◌≢◌}
 use Rattle.rules.specs.Sets.{inside}
 use Rattle.rules.specs.Links.{Links, LawfulLinks, link_count}
-use Rattle.network.specs.Graphs as graph
+use Rattle.network.specs.Graphs as graphs
 use Rattle.matrix.specs.declared.matrix.Matrix.{Matrix}
 
 -- how many members it has, and which are linked
 abbrev pub members_of : Matrix → ℕ
-members_of m = graph.members_of m.graph
+members_of m = graphs.members_of m.graph
 
 abbrev pub links_of : Matrix → Links
-links_of m = graph.links_of m.graph
+links_of m = graphs.links_of m.graph
 
 -- the most links that it holds
 abbrev pub room : ℕ

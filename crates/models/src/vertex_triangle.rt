@@ -1,7 +1,7 @@
 ghost use Rattle.std.specs.Prelude.{◌≡◌};
 ghost use Rattle.vocabulary.specs.declared.model_kind.ModelKind.TheVariants as kind;
 ghost use Rattle.rules.specs.Models.{in_triangle, vertex_triangle};
-ghost use Rattle.network.specs.Graphs.{links_of};
+ghost use Rattle.network.specs.Parts.{links_in, set_in};
 ghost use Rattle.rules.proofs.Models.{vertex_triangle_lawful};
 
 use crate::named_model::NamedModel;
@@ -43,7 +43,7 @@ impl NamedModel for VertexTriangle {
 
 /// Whether two members of the set are linked to a and to each other.
 fn in_triangle(part: &Induced<'_>, a: u32) -> bool
-    ensures { result ≡ in_triangle (links_of part.now.graph.now) part.now.set.word a }
+    ensures { result ≡ in_triangle (links_in part.now) (set_in part.now) a }
 {
     part.neighbours(a).members().any(|b| part.shared(a, b) >= 1)
 }

@@ -19,8 +19,8 @@ lawful_rows n rows l e laws = rw e laws
 -- ---- rows filled one by one
 
 -- of the members that may be linked to somebody, those that have come, as rest has left, and are
-abbrev pub Gathered : (ℕ → Bool) → ℕ → ℕ → Type 0
-Gathered linked rest row = (b : ℕ) → has row b ≡ (linked b && not (has rest b))
+abbrev pub LinkedSoFar : (ℕ → Bool) → ℕ → ℕ → Type 0
+LinkedSoFar linked rest row = (b : ℕ) → has row b ≡ (linked b && not (has rest b))
 
 -- the rows of those that have come, as rest has left, hold their links, and the others nobody
 abbrev pub Filled : Links → ℕ → List MemberSet → Type 0

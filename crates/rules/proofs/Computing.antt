@@ -149,14 +149,16 @@ module _ (n : ℕ) (l : Links) (m : Meaning) (S : ℕ) where
     λ x i. let f = every_at (λ x. if (has S x) (m.fits l S x)) n fit x (members x i) in grind (arith, nat_tests),
     record {
       one = grind arith;
-      two = grind arith;
-      above = grind (arith, nat_tests);
-      unpaired = λ p. grind arith;
+      two = record {
+        member = grind arith;
+        above = grind (arith, nat_tests);
+        unpaired = λ p. grind arith;
+        next = λ y i h k. let p = every_at (λ y. if (ltb y b) (pairs_above a y)) n between y (members y i) in grind (arith, nat_tests);
+      };
       smallest = λ x i h y j k.
           let r = every_at (pairs_before a) n before x (members x i) in
           let p = every_at (pairs_above x) n (grind (arith, nat_tests)) y (members y j) in
           grind (arith, nat_tests);
-      next = λ y i h k. let p = every_at (λ y. if (ltb y b) (pairs_above a y)) n between y (members y i) in grind (arith, nat_tests);
     },
   )
 

@@ -18,22 +18,22 @@ module _ (n : ℕ) (l : Links) (m : Meaning) (S : ℕ) where
   one_apart : (a b c d : ℕ) → FirstApart l m S a b → FirstApart l m S c d → (a ≡ c) × (b ≡ d)
   one_apart a b c d x y = elim (cases_order a c) [
     | inl e ↦ (e, second (subst (λ (z : ℕ). FirstApart l m S z d) (sym e) y))
-    | inr (inl h) ↦ absurd (x.unpaired (y.smallest a x.one h b x.two x.above))
-    | inr (inr h) ↦ absurd (y.unpaired (x.smallest c y.one h d y.two y.above))
+    | inr (inl h) ↦ absurd (x.two.unpaired (y.smallest a x.one h b x.two.member x.two.above))
+    | inr (inr h) ↦ absurd (y.two.unpaired (x.smallest c y.one h d y.two.member y.two.above))
   ]
     where
       second : FirstApart l m S a d → b ≡ d
       second z = elim (cases_order b d) [
         | inl e ↦ e
-        | inr (inl h) ↦ absurd (x.unpaired (z.next b x.two x.above h))
-        | inr (inr h) ↦ absurd (z.unpaired (x.next d z.two z.above h))
+        | inr (inl h) ↦ absurd (x.two.unpaired (z.two.next b x.two.member x.two.above h))
+        | inr (inr h) ↦ absurd (z.two.unpaired (x.two.next d z.two.member z.two.above h))
       ]
 
   loose_fits : (a : ℕ) → FirstNot S (λ x. T (m.fits l S x)) a → AllFit l m S → ⊥
   loose_fits a x f = x.fails (f a x.member)
 
   apart_group : (a b : ℕ) → FirstApart l m S a b → Group n l m S → ⊥
-  apart_group a b x g = x.unpaired (g.all_pair a b x.one x.two (λ e. let h = x.above in omega arith))
+  apart_group a b x g = x.two.unpaired (g.all_pair a b x.one x.two.member (λ e. let h = x.two.above in omega arith))
 
   pub one_standing : (r s : Standing) → Stands n l m S r → Stands n l m S s → r ≡ s
   one_standing standing.Empty standing.Empty x y = refl

@@ -1,5 +1,5 @@
 -- What the calls of a network turn down, in the order in which they try it, and what they leave. Assumes nothing.
-use Rattle.std.specs.Prelude.{◌≡◌, ℕ, ◌<◌, Bool, cond, not, ◌||◌, Some, None, Ok, Err, Option, Result, ◌==◌, nat_le}
+use Rattle.std.specs.Prelude.{◌≡◌, ℕ, ◌<◌, Bool, cond, not, ◌||◌, Some, None, Ok, Err, Option, Result, OnOk, ◌==◌, nat_le}
 use Rattle.vocabulary.specs.declared.refusal.Refusal.{Refusal}
 use Rattle.vocabulary.specs.declared.refusal.Refusal.TheVariants.{OutOfRange, SameMember, AlreadyLinked, NotLinked, NoRoom}
 use Rattle.rules.specs.Sets.{inside}
@@ -69,5 +69,4 @@ Disconnected n l a b k r = Edited (ends_refusal n a b None) l (unlinking a b l) 
 
 -- a place is free again after a taken unlink
 abbrev pub Freed : ℕ → ℕ → Links → Result (Unit {0}) Refusal → Type 0
-Freed n room k (Ok _) = link_count n k < room
-Freed n room k (Err e) = Unit {0}
+Freed n room k r = OnOk r (link_count n k < room)

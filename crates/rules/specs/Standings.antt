@@ -16,14 +16,18 @@ pub record FirstNot (S : ℕ) (P : ℕ → Type 0) (a : ℕ) : Type 0 where
 abbrev pub PairsAbove : Links → Meaning → ℕ → ℕ → Type 0
 PairsAbove l m S x = (y : ℕ) → T (has S y) → x < y → T (m.pairs l S x y)
 
+-- b is the smallest member of S above a that does not pair with a in S
+pub record NextApart (l : Links) (m : Meaning) (S a b : ℕ) : Type 0 where
+  pub member : T (has S b)
+  pub above : a < b
+  pub unpaired : T (m.pairs l S a b) → ⊥
+  pub next : (y : ℕ) → T (has S y) → a < y → y < b → T (m.pairs l S a y)
+
 -- a and b are members of S that do not pair in it: a is the smallest that does not pair with some member above it, b the smallest above a that does not pair with a
 pub record FirstApart (l : Links) (m : Meaning) (S a b : ℕ) : Type 0 where
   pub one : T (has S a)
-  pub two : T (has S b)
-  pub above : a < b
-  pub unpaired : T (m.pairs l S a b) → ⊥
+  pub two : NextApart l m S a b
   pub smallest : (x : ℕ) → T (has S x) → x < a → PairsAbove l m S x
-  pub next : (y : ℕ) → T (has S y) → a < y → y < b → T (m.pairs l S a y)
 
 -- the smallest member that does not fit, none where each fits
 abbrev pub FirstLoose : Links → Meaning → ℕ → Option ℕ → Type 0

@@ -170,7 +170,7 @@ impl MemberSet {
     }
 }
 
-/// The digit at which the member a stands; none where a is no number of a member.
+/// The word with the digit of the member a alone; 0 where a is no number of a member.
 #[tactic(auto, using(rules::proofs::Digits::has_one, rules::proofs::Digits::nobody))]
 fn digit(a: u32) -> u64
     ensures { (b : ℕ) → has result b ≡ (b == a && inside 64 a) }

@@ -1,4 +1,8 @@
+ghost use Rattle.std.specs.Prelude.{◌++◌, Some, codes, decimal};
 ghost use Rattle.vocabulary.specs.ModelKinds.{NamesModel};
+
+use std::error::Error;
+use std::fmt;
 
 /// The models of groups, by name.
 #[derive(Clone, Copy, Debug, PartialEq, Eq)]
@@ -31,3 +35,13 @@ impl TryFrom<u8> for ModelKind {
         }
     }
 }
+
+impl fmt::Display for UnknownLetter {
+    ghost output = { λ unknown. Some (codes "no model has the byte " ++ decimal unknown.0) };
+
+    fn fmt<W: fmt::Write>(&self, f: &mut fmt::Formatter<W>) -> fmt::Result {
+        write!(f, "no model has the byte {}", self.0)
+    }
+}
+
+impl Error for UnknownLetter {}
