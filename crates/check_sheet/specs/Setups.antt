@@ -3,7 +3,8 @@ use Rattle.std.specs.Prelude.{◌≡◌, ℕ, Option, Result}
 use Rattle.vocabulary.specs.declared.refusal.Refusal.{Refusal}
 use Rattle.vocabulary.specs.declared.model_kind.ModelKind.{ModelKind}
 use Rattle.rules.specs.Links.{Links, no_links}
-use Rattle.rules.specs.Refusals.{or_else, making_refusal, Answers}
+use Rattle.std.specs.Option.{option_or}
+use Rattle.rules.specs.Refusals.{making_refusal, Answers}
 use Rattle.rules.specs.Models.{Meaning}
 use Rattle.rules.specs.Published.{Agrees}
 use Rattle.rules.specs.Kinds.{rule, published, parameter_refusal}
@@ -19,7 +20,7 @@ pub record SetupIs (n : ℕ) (l : Links) (m : Meaning) (s : Setup) : Type 0 wher
 
 -- the network's refusals are tried before the model's
 abbrev pub setup_refusal : ℕ → ModelKind → ℕ → Option Refusal
-setup_refusal n k t = or_else (making_refusal n) (parameter_refusal k t)
+setup_refusal n k t = option_or (making_refusal n) (parameter_refusal k t)
 
 -- a network without links, under a model whose groups are the published ones
 pub record Begun (n : ℕ) (k : ModelKind) (t : ℕ) (s : Setup) : Type 0 where

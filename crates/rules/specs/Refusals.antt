@@ -9,11 +9,6 @@ use Rattle.rules.specs.Links.{Links, no_links, linking, unlinking, link_count}
 abbrev pub try : Bool → Refusal → Option Refusal → Option Refusal
 try test e rest = cond test (Some e) rest
 
--- the first refusal, and where there is none the second
-abbrev pub or_else : Option Refusal → Option Refusal → Option Refusal
-or_else (Some e) second = Some e
-or_else None second = second
-
 -- no member of 1 to n
 abbrev pub unknown : ℕ → ℕ → Bool
 unknown n a = not (inside n a)
