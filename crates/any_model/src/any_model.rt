@@ -51,6 +51,7 @@ impl GroupModel for AnyModel {
       | model.EdgeTriangle m ↦ by_count_lawful _ edge_triangle_grows
     ] };
 
+    // Five arms for each question: a function that hands out a `dyn` is refused, and one that makes it here gets no proof.
     fn fits(&self, part: &Induced<'_>, a: u32) -> bool {
         match *self {
             AnyModel::Plain(model) => model.fits(part, a),

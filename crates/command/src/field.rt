@@ -39,6 +39,7 @@ pub(crate) fn field(s: &[u8]) -> Option<(u32, &[u8])>
 {
     let rest = after_space(s)?;
     let n = digits(rest);
+    // two tests: with `contains` the check leaves two goals of this function open
     if n == 0 || n > MOST_DIGITS {
         return None;
     }

@@ -18,6 +18,7 @@ pub fn read_sheet(graph: &Graph, sheet: &[u8]) -> Result<MemberSet, Refusal>
     }
     let n = graph.n();
     let mut named = MemberSet::empty();
+    // a `for`: `try_fold` would carry the same tests and errors in a closure
     for number in sheet {
         let a = u32::from(*number);
         if !(1..=n).contains(&a) {

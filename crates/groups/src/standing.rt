@@ -18,6 +18,7 @@ pub fn first_loose<M: GroupModel>(model: &M, part: &Induced<'_>) -> Option<u32>
 pub fn first_unpaired<M: GroupModel>(model: &M, part: &Induced<'_>) -> Option<(u32, u32)>
     ensures { FirstUnpaired (links_in part.now) (M.GroupModel.meaning model.now) (set_in part.now) result }
 {
+    // a `for`: what `find_map` ensures leaves open that it stops at a member with `None`
     for a in part.set.members() {
         if let Some(b) = first_apart(model, part, a) {
             return Some((a, b));

@@ -13,6 +13,7 @@ use vocabulary::refusal::Refusal;
 #[derive(Clone, Copy)]
 pub struct Graph {
     members: u32,
+    // no `ArrayVec`: the rows are fixed memory that is copied as it is
     rows: [MemberSet; 64],
     ghost lawful: { LawfulLinks members (adjacent rows) },
 }
@@ -97,6 +98,7 @@ impl Graph {
     }
 
     /// Takes the link of two members away, if they were linked.
+    // As `connect`, with `without` for `with`: a parameter for these would be longer than the lines.
     pub fn disconnect(&mut self, a: u32, b: u32) -> Result<(), Refusal>
         ensures after { Disconnected (members_of self.old) (links_of self.old) a b (links_of self.new) result }
         ensures members { members_of self.new ≡ members_of self.old }
@@ -115,6 +117,7 @@ fn linked_to<N: Network>(net: &N, a: u32) -> MemberSet
     ensures { (b : ℕ) → has result.word b ≡ N.Network.links net.now a b }
 {
     let mut row = MemberSet::empty();
+    // a `for`: `filter` and `fold` are no shorter
     for b in MemberSet::up_to(net.n()).members() {
         if net.linked(a, b) {
             row = row.with(b);

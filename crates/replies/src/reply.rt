@@ -6,6 +6,7 @@ use vocabulary::refusal::Refusal;
 use vocabulary::standing::Standing;
 
 /// What is replied to one line.
+// No `Result`: the four are printed and counted alike, and no two of them are an `Ok`.
 #[derive(Clone, Copy, Debug, PartialEq, Eq)]
 pub enum Reply {
     Done,

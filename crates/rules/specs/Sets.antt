@@ -1,7 +1,7 @@
 -- Sets of members as words: member a stands at the binary digit a - 1, so a word of 64 digits is a set of members 1 to 64. Assumes nothing.
 use Rattle.std.specs.Prelude.{◌≡◌, ℕ, zero, suc, ◌+◌, ◌/◌, ◌%◌, ◌^◌, ◌≤◌, Bool, true, false, cond, not, ◌&&◌, T, Some, None, Option, ◌==◌, nat_le}
 
--- the answer of a test is yes exactly when P is true
+-- the answer of a test is yes exactly when P is true (std's `Decides` says it by two arrows, this one is read by the answer)
 abbrev pub Tells : Bool → Type 0 → Type 0
 Tells true P = P
 Tells false P = P → ⊥

@@ -6,6 +6,7 @@ ghost use Rattle.sets.specs.Words.{word_of};
 use crate::members::Members;
 
 /// A set of members 1 to 64: member a stands at the binary digit a - 1 of the word.
+// Contracts read the word: with an `impl Model` a struct or an option that holds a set would be moved where it is copied now.
 #[derive(Clone, Copy, PartialEq, Eq, Debug)]
 pub struct MemberSet {
     word: u64,
@@ -143,6 +144,7 @@ impl MemberSet {
     }
 
     /// Whether the set has more members, or as many and the smallest member in which the two differ.
+    // No `Ord`: `a > b` would read as the order of Rust's own sets, which is that of lists.
     #[tactic(auto, using(rules::proofs::Order::order_laws, rules::proofs::Order::first_decides))]
     pub fn is_better_than(self, other: MemberSet) -> bool
         ensures value { Tells result (Better self.word other.word) }

@@ -4,6 +4,7 @@ ghost use Rattle.vocabulary.specs.Standings.{standing_text};
 use std::fmt;
 
 /// How a set stands in a network under a model: the first of these that is true of it.
+// No `Result`: that a set is no group is an answer, and nobody passes it on as an error.
 #[derive(Clone, Copy, Debug, PartialEq, Eq)]
 pub enum Standing {
     Empty,
