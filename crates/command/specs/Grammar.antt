@@ -18,7 +18,7 @@ pub record Numeral (ds : List ℕ) (x : ℕ) : Type 0 where
   pub digits : All Digit ds
   pub value : x ≡ number_written ds
 
--- a command as it is said
+-- a command as it is said, without the spare places of a sheet
 pub data Spelled : Type 0 where
   network : ℕ → ModelKind → ℕ → Spelled
   link : ℕ → ℕ → Spelled

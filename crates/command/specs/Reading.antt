@@ -1,5 +1,5 @@
 -- What it means that a line was read as a command, or refused. Assumes nothing.
-use Rattle.std.specs.Prelude.{◌≡◌, ℕ, List, Some, None, Option}
+use Rattle.std.specs.Prelude.{◌≡◌, ℕ, List, take, Some, None, Option}
 use Rattle.command.specs.Grammar.{Spelled, network, link, sheet, Written}
 use Rattle.command.specs.declared.Command.{Command}
 use Rattle.command.specs.declared.Command.TheVariants.{Network, Link, Sheet}
@@ -8,7 +8,7 @@ use Rattle.command.specs.declared.Command.TheVariants.{Network, Link, Sheet}
 abbrev pub says : Command → Spelled
 says (Network n m t) = network n m t
 says (Link a b) = link a b
-says (Sheet numbers) = sheet numbers.items
+says (Sheet s) = sheet (take s.len s.bytes)
 
 -- the one command that P allows, or none where it allows none
 abbrev pub Spells : (Spelled → Type 0) → Option Command → Type 0

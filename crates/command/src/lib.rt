@@ -2,26 +2,26 @@
 #![tactic(auto)]
 
 mod field;
+mod sheet;
 
 ghost use Rattle.std.specs.Prelude.{◌<◌, ◌∷◌, length};
 ghost use Rattle.command.specs.Grammar.{Form};
 ghost use Rattle.command.specs.Reading.{Reads, Spells};
 
-use arrayvec::ArrayVec;
 use field::{field, last_field, model_field};
 use lines::LONGEST;
+pub use sheet::Sheet;
 use vocabulary::model_kind::ModelKind;
 
 /// No line has more numbers, since each takes two bytes at least.
 pub const MOST_NUMBERS: usize = LONGEST / 2;
 
 /// What a line asks for.
-#[derive(Clone, Debug, Drop, PartialEq, Eq)]
+#[derive(Clone, Copy, Debug, PartialEq, Eq)]
 pub enum Command {
     Network { n: u32, model: ModelKind, t: u32 },
     Link(u32, u32),
-    /// the numbers, in the order given
-    Sheet(ArrayVec<u8, MOST_NUMBERS>),
+    Sheet(Sheet),
 }
 
 /// What `N` is followed by: a number, a model and the model's parameter.
@@ -48,14 +48,14 @@ fn sheet_of(fields: &[u8]) -> Option<Command>
     requires { length fields.now < 1000 }
     ensures { Spells (λ c. Form c (75 ∷ fields.now)) result }
 {
-    let mut numbers = ArrayVec::new();
+    let mut sheet = Sheet::new();
     let mut rest = fields;
     while !rest.is_empty() {
         let (number, after) = field(rest)?;
-        numbers.push(u8::try_from(number).ok()?);
+        sheet.push(u8::try_from(number).ok()?);
         rest = after;
     }
-    Some(Command::Sheet(numbers))
+    Some(Command::Sheet(sheet))
 }
 
 /// The command that a line spells, if it spells one.

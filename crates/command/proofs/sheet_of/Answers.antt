@@ -26,8 +26,8 @@ loop-rest-preserved c =
     record {
       read =
           continued_more c.loop-rest.invariant.read c.in_ok-number.ensures (grind (arith, common_steps))
-          (grind (arith, common_steps)) c.push.ensures.items;
-      room = omega (arith, field_len c.in_ok-number.ensures);
+          (grind (arith, common_steps)) c.push.ensures.after;
+      room = omega (arith, field_len c.in_ok-number.ensures, c.push.ensures.len);
     }
 
 pub returns : goal.returns
