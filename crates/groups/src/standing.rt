@@ -31,10 +31,12 @@ pub fn first_unpaired<M: GroupModel>(model: &M, part: &Induced<'_>) -> Option<(u
 fn first_apart<M: GroupModel>(model: &M, part: &Induced<'_>, a: u32) -> Option<u32>
     ensures { FirstAbove (links_in part.now) (M.GroupModel.meaning model.now) (set_in part.now) a result }
 {
+    // a copy, whose two words stay at hand from member to member
+    let part = *part;
     part.set
         .above(a)
         .members()
-        .find(|b| !model.pair(part, a, *b))
+        .find(|b| !model.pair(&part, a, *b))
 }
 
 /// How the set stands in the network under the model: a group of it, or the first thing that is wrong.
