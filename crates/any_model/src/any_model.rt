@@ -27,7 +27,7 @@ pub enum AnyModel {
 impl AnyModel {
     /// The model of that kind with the parameter t.
     pub fn new(kind: ModelKind, t: u32) -> Result<AnyModel, Refusal>
-        ensures { ModelMade meaning_of kind t result }
+        ensures { ModelMade ⟦<AnyModel as GroupModel>⟧.meaning kind t result }
     {
         let model = match kind {
             ModelKind::Plain => AnyModel::Plain(Plain::new(t)?),
