@@ -4,35 +4,52 @@ use mathlib.Core.Path.{fun_ext}
 use Rattle.std.proofs.lemmas.Bool.{cases_eq, cases_order}
 use Rattle.std.proofs.lemmas.Bool.Decides.{nat_tests}
 use Rattle.rules.specs.Sets.{inside, tally}
-use Rattle.rules.specs.Links.{Links, no_links, BothWays, LawfulLinks, linking, unlinking, sum, link_count}
+use Rattle.rules.specs.Links.{Links, no_links, BothWays, NotItself, OnlyMembers, LawfulLinks, linking, unlinking, sum, link_count}
 use Rattle.rules.proofs.Members.{inside_from, inside_to}
 use Rattle.rules.proofs.Refusals.{TwoMembers}
 use Rattle.rules.proofs.Tallies.{tally_same, tally_none, tally_one}
 
--- ---- the laws are kept
+-- ---- the laws are kept, each by itself
+
+pub linking_both : (a b : ℕ) (l : Links) → BothWays l → BothWays (linking a b l)
+linking_both a b l h x y = let e = h x y in grind (arith, nat_tests)
+
+pub linking_itself : (a b : ℕ) (l : Links) → (a ≡ b → ⊥) → NotItself l → NotItself (linking a b l)
+linking_itself a b l d h x = let e = h x in grind (arith, nat_tests)
+
+pub linking_only : (n a b : ℕ) (l : Links) → T (inside n a) → T (inside n b) → OnlyMembers n l → OnlyMembers n (linking a b l)
+linking_only n a b l i j h x y out = let e = h x y out in grind (arith, nat_tests)
+
+pub unlinking_both : (a b : ℕ) (l : Links) → BothWays l → BothWays (unlinking a b l)
+unlinking_both a b l h x y = let e = h x y in grind (arith, nat_tests)
+
+pub unlinking_itself : (a b : ℕ) (l : Links) → NotItself l → NotItself (unlinking a b l)
+unlinking_itself a b l h x = let e = h x in grind (arith, nat_tests)
+
+pub unlinking_only : (n a b : ℕ) (l : Links) → OnlyMembers n l → OnlyMembers n (unlinking a b l)
+unlinking_only n a b l h x y out = let e = h x y out in grind (arith, nat_tests)
+
+-- ---- and together
 
 pub no_links_lawful : (n : ℕ) → 1 ≤ n → n ≤ 64 → LawfulLinks n no_links
 no_links_lawful n some few = record { some = some; few = few; both_ways = λ a b. refl; not_itself = λ a. refl; only_members = λ a b h. refl }
 
 pub linking_lawful : (n a b : ℕ) (l : Links) → TwoMembers n a b → LawfulLinks n l → LawfulLinks n (linking a b l)
-linking_lawful n a b l ends laws =
-    let i = ends.one in
-    let j = ends.two in
-    record {
-      some = laws.some;
-      few = laws.few;
-      both_ways = λ x y. let e = laws.both_ways x y in grind (arith, nat_tests);
-      not_itself = λ x. let e = laws.not_itself x in let d = ends.differ in grind (arith, nat_tests);
-      only_members = λ x y out. let e = laws.only_members x y out in grind (arith, nat_tests);
-    }
+linking_lawful n a b l ends laws = record {
+  some = laws.some;
+  few = laws.few;
+  both_ways = linking_both a b l laws.both_ways;
+  not_itself = linking_itself a b l ends.differ laws.not_itself;
+  only_members = linking_only n a b l ends.one ends.two laws.only_members;
+}
 
 pub unlinking_lawful : (n a b : ℕ) (l : Links) → LawfulLinks n l → LawfulLinks n (unlinking a b l)
 unlinking_lawful n a b l laws = record {
   some = laws.some;
   few = laws.few;
-  both_ways = λ x y. let e = laws.both_ways x y in grind (arith, nat_tests);
-  not_itself = λ x. let e = laws.not_itself x in grind (arith, nat_tests);
-  only_members = λ x y out. let e = laws.only_members x y out in grind (arith, nat_tests);
+  both_ways = unlinking_both a b l laws.both_ways;
+  not_itself = unlinking_itself a b l laws.not_itself;
+  only_members = unlinking_only n a b l laws.only_members;
 }
 
 -- ---- how many there are
@@ -74,7 +91,7 @@ module _ (n a b : ℕ) (i : T (inside n a)) (j : T (inside n b)) (d : a ≡ b �
 
   pub count_unlinking : (l : Links) → BothWays l → l a b ≡ true → suc (link_count n (unlinking a b l)) ≡ link_count n l
   count_unlinking l both h =
-      sym (count_linking (unlinking a b l) (λ x y. let e = both x y in grind (arith, nat_tests)) (grind (arith, nat_tests))) ∙ ap (link_count n) (again l both h)
+      sym (count_linking (unlinking a b l) (unlinking_both a b l both) (grind (arith, nat_tests))) ∙ ap (link_count n) (again l both h)
 
 pub count_none : (n : ℕ) → link_count n no_links ≡ 0
 unfolding sum

@@ -15,10 +15,10 @@ pub same_members : SameMembers
 unfolding has
 same_members S R e = same_from_bits S R (λ k. let d = e (suc k) in let s = bit_at-lt S k in let r = bit_at-lt R k in grind (arith, nat_tests))
 
-no_members : (S : ℕ) → S ≡ 0 → EmptySet S
+pub no_members : (S : ℕ) → S ≡ 0 → EmptySet S
 no_members S e a = rw e (nobody a)
 
-empty_word : (S : ℕ) → EmptySet S → S ≡ 0
+pub empty_word : (S : ℕ) → EmptySet S → S ≡ 0
 empty_word S none = same_members S 0 (λ a. none a ∙ sym (nobody a))
 
 pub empty_tells : (S : ℕ) → Tells (eqb S 0) (EmptySet S)

@@ -11,7 +11,7 @@ use Rattle.rules.proofs.Tallies.{tally_same, tally_mono}
 shared_wider : (l : Links) (S R a b : ℕ) → Within S R → shared l a b S ≤ shared l a b R
 shared_wider l S R a b w = tally_mono _ _ 64 (λ k h t. let i = w (suc k) in grind (arith, nat_tests))
 
-shared_turned : (l : Links) (S a b : ℕ) → shared l a b S ≡ shared l b a S
+pub shared_turned : (l : Links) (S a b : ℕ) → shared l a b S ≡ shared l b a S
 shared_turned l S a b = tally_same _ _ 64 (λ k h. grind (arith, nat_tests))
 
 -- ---- every member fits, and two pair by a test of their link and the number that they share; the more they share the better

@@ -44,11 +44,11 @@ first_trans S R Q f g = elim (cases_order f.at g.at) [
   | inr (inr h) ↦ record { at = g.at; held = subst T (sym (f.below g.at h)) g.held; lacks = g.lacks; below = λ a l. f.below a (omega arith) ∙ g.below a l }
 ]
 
-better_irrefl : (S : ℕ) → Better S S → ⊥
+pub better_irrefl : (S : ℕ) → Better S S → ⊥
 better_irrefl S (inl h) = omega arith
 better_irrefl S (inr h) = h.1.lacks h.1.held
 
-better_trans : (S R Q : ℕ) → Better S R → Better R Q → Better S Q
+pub better_trans : (S R Q : ℕ) → Better S R → Better R Q → Better S Q
 better_trans S R Q (inl h) (inl k) = inl (omega arith)
 better_trans S R Q (inl h) (inr k) = inl (omega (arith, k.0))
 better_trans S R Q (inr h) (inl k) = inl (omega (arith, h.0))

@@ -14,7 +14,7 @@ use Rattle.rules.proofs.Ways.{Way, straight, by, Leads, club_from_ways, way_in_c
 abbrev pub common : Links → ℕ → ℕ → ℕ → ℕ → Bool
 common l S a b k = has S k && (l a k && l b k)
 
-and_right : (b c : Bool) → T (b && c) → T c
+pub and_right : (b c : Bool) → T (b && c) → T c
 and_right b c t = grind (arith, nat_tests)
 
 -- two different members pair when they are linked or share k
@@ -83,7 +83,7 @@ module _ (n : ℕ) (l : Links) (N : LawfulLinks n l) (S : ℕ) (small : SetOf n 
 
   -- ---- edge triangle: linked or not, two pair exactly when they share a member
 
-  pairs_edges : AllPair l edge_triangle S → EdgeTriangleClub l S
+  pub pairs_edges : AllPair l edge_triangle S → EdgeTriangleClub l S
   pairs_edges pair = (
     club_from_ways n l N S (λ a b i j d. let (k, w) = third a b i j d in (by k, w)),
     λ a b i j t.
@@ -97,7 +97,7 @@ module _ (n : ℕ) (l : Links) (N : LawfulLinks n l) (S : ℕ) (small : SetOf n 
       third : (a b : ℕ) → T (has S a) → T (has S b) → (a ≡ b → ⊥) → (k : ℕ) × Leads l S a b (by k)
       third a b i j d = one_shared a b (leb→le 1 _ (and_right (two_of S a b) (leb 1 (shared l a b S)) (pair a b i j d)))
 
-  edges_pair : EdgeTriangleClub l S → AllPair l edge_triangle S
+  pub edges_pair : EdgeTriangleClub l S → AllPair l edge_triangle S
   edges_pair (c, triangle) a b i j d = share (way_in_club n l N S c a b i j d)
     where
       share : (w : Way) × Leads l S a b w → T (two_of S a b && leb 1 (shared l a b S))

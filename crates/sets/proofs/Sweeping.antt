@@ -23,7 +23,7 @@ pub record Swept (S : ℕ) (P : ℕ → Type 0) (rest : ℕ) : Type 0 where
 pub same_set : (S R : ℕ) (p : ℕ → Bool) → S ≡ R → ((a : ℕ) → has R a ≡ p a) → (a : ℕ) → has S a ≡ p a
 same_set S R p e R_is a = ap (λ (w : ℕ). has w a) e ∙ R_is a
 
-sweep_start : (S : ℕ) (P : ℕ → Type 0) → Swept S P S
+pub sweep_start : (S : ℕ) (P : ℕ → Type 0) → Swept S P S
 sweep_start S P = record { within = λ a t. t; passed = λ a t n. absurd (n t) }
 
 -- all before the smallest one to come have come
