@@ -1,7 +1,5 @@
 ghost use Rattle.std.specs.Prelude.{◌≡◌, ℕ, Bool};
-ghost use Rattle.rules.specs.Links.{shared};
 ghost use Rattle.rules.specs.Models.{by_count, Grows};
-ghost use Rattle.network.specs.Parts.{links_in, set_in};
 ghost use Rattle.rules.proofs.Models.{by_count_lawful};
 
 use crate::model::GroupModel;
@@ -14,13 +12,6 @@ pub trait PairRule {
     /// Whether two members pair.
     fn is_enough(&self, linked: bool, shared: u32) -> bool
         ensures { result ≡ enough self.now linked shared };
-
-    /// Whether two members pair by their link and the members of the part that they share. A rule that needs no count where they are linked may say so here.
-    fn is_enough_between(&self, part: &Induced<'_>, a: u32, b: u32) -> bool
-        ensures { result ≡ enough self.now (links_in part.now a b) (shared (links_in part.now) a b (set_in part.now)) }
-    {
-        self.is_enough(part.graph.linked(a, b), part.shared(a, b))
-    }
 
     ghost grows: { (rule : Self) → Grows (enough rule) };
 }
@@ -36,6 +27,6 @@ impl<R: PairRule> GroupModel for R {
     }
 
     fn pair(&self, part: &Induced<'_>, a: u32, b: u32) -> bool {
-        part.set.has_two(a, b) && self.is_enough_between(part, a, b)
+        part.set.has_two(a, b) && self.is_enough(part.graph.linked(a, b), part.shared(a, b))
     }
 }

@@ -5,7 +5,6 @@ ghost use Rattle.rules.proofs.Models.{plain_grows};
 use crate::named_model::NamedModel;
 use crate::parameter::check_parameter;
 use groups::pair_rule::PairRule;
-use network::induced::Induced;
 use vocabulary::model_kind::ModelKind;
 use vocabulary::refusal::Refusal;
 
@@ -20,11 +19,6 @@ impl PairRule for Plain {
 
     fn is_enough(&self, linked: bool, shared: u32) -> bool {
         linked || shared >= 1
-    }
-
-    // nobody is counted between linked members: most two of a large group are
-    fn is_enough_between(&self, part: &Induced<'_>, a: u32, b: u32) -> bool {
-        part.graph.linked(a, b) || part.shared(a, b) >= 1
     }
 }
 
